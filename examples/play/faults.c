@@ -6,19 +6,20 @@
 #include <stdlib.h>
 #include <string.h>
 
-/* The words of a fault, how many numbers follow its network, the base of the second, and its greatest value. */
+/* The word of a fault, the number after its frame's and what that may be, how many numbers follow its network, the base of the
+ * second, and its greatest value. */
 static const struct form {
-    const char *word;
+    const char *word, *second, *range;
     int numbers, base;
     uint64_t most;
 } forms[] = {
-    [LOSE] = {"lose", 1, 0, 0},
-    [REPEAT] = {"repeat", 1, 0, 0},
-    [SWAP] = {"swap", 2, 10, UINT32_MAX},
-    [NUMBER] = {"number", 2, 10, UINT8_MAX},
-    [EARLY] = {"early", 2, 10, UINT32_MAX},
-    [FLIP] = {"flip", 2, 16, AFDX_GREATEST_FRAME - 1},
-    [DOWN] = {"down", 1, 0, 0},
+    [LOSE] = {"lose", NULL, NULL, 1, 0, 0},
+    [REPEAT] = {"repeat", NULL, NULL, 1, 0, 0},
+    [SWAP] = {"swap", "OTHER", "a later frame up to 4294967295", 2, 10, UINT32_MAX},
+    [NUMBER] = {"number", "NUMBER", "0 to 255", 2, 10, UINT8_MAX},
+    [EARLY] = {"early", "MICROS", "0 to 4294967295", 2, 10, UINT32_MAX},
+    [FLIP] = {"flip", "INDEX", "hexadecimal, 0 to 5e9", 2, 16, AFDX_GREATEST_FRAME - 1},
+    [DOWN] = {"down", NULL, NULL, 1, 0, 0},
 };
 
 /* Reads a number without a sign, after spaces. Returns what follows, or NULL if there is none of 64 bits. */
@@ -31,11 +32,12 @@ static const char *read_number(const char *text, int base, uint64_t *value) {
     return end != text && errno == 0 ? end : NULL;
 }
 
-bool read_fault(struct faults *faults, const char *text) {
+/* Adds a fault. Returns whether it is one. */
+static bool add_fault(struct faults *faults, const char *text) {
     char word[8] = "", network = '?';
     uint64_t frame = 0, value = 0;
     int end = 0;
-    if (faults->count == MOST_FAULTS || sscanf(text, "%7s %c%n", word, &network, &end) != 2) return false;
+    if (sscanf(text, "%7s %c%n", word, &network, &end) != 2) return false;
     const char *rest = read_number(text + end, 10, &frame);
     for (size_t kind = 0; kind < sizeof forms / sizeof *forms && rest != NULL; kind++) {
         const struct form *form = &forms[kind];
@@ -50,7 +52,35 @@ bool read_fault(struct faults *faults, const char *text) {
     return false;
 }
 
-/* Whether a fault, if it comes true, keeps another one of its network from coming true. */
+/* Prints which form a fault with the first word of a text has, and that it is another. */
+static void tell_form(const char *text) {
+    const char *word = text + strspn(text, " ");
+    size_t length = strcspn(word, " "), kind = 0, kinds = sizeof forms / sizeof *forms;
+    while (kind < kinds && (strlen(forms[kind].word) != length || strncmp(forms[kind].word, word, length) != 0)) kind++;
+    if (kind == kinds) {
+        fprintf(stderr, "--fault: lose, repeat, swap, number, early, flip or down is wanted first, and \"%s\" is seen\n", text);
+        return;
+    }
+    const struct form *form = &forms[kind];
+    if (form->second == NULL)
+        fprintf(stderr, "--fault: %s NETWORK FRAME is wanted, where NETWORK is A or B and FRAME is 1 or more, and \"%s\" is seen\n",
+                form->word, text);
+    else
+        fprintf(stderr, "--fault: %s NETWORK FRAME %s is wanted, where NETWORK is A or B, FRAME is 1 or more and %s is %s, and \"%s\" is seen\n",
+                form->word, form->second, form->second, form->range, text);
+}
+
+bool read_fault(struct faults *faults, const char *text) {
+    if (faults->count == MOST_FAULTS) {
+        fprintf(stderr, "--fault: at most %d are wanted, and \"%s\" is one more\n", MOST_FAULTS, text);
+        return false;
+    }
+    if (add_fault(faults, text)) return true;
+    tell_form(text);
+    return false;
+}
+
+/* Whether a fault, if it is made, keeps another one of its network from being made. */
 static bool hinders(const struct fault *one, const struct fault *other) {
     if (one->network != other->network) return false;
     bool is_same = one->frame == other->frame;

@@ -87,10 +87,10 @@ struct faults {
     size_t count;
 };
 
-/* Reads a fault, as "lose A 100". Returns whether it is one. */
+/* Reads a fault, as "lose A 100". Returns whether it is one, and prints the form of one if it isn't. */
 bool read_fault(struct faults *faults, const char *text);
 
-/* The first two faults that can't both come true, as a frame that isn't sent can't be changed. Returns whether there are
+/* The first two faults that can't both be made, as a frame that isn't sent can't be changed. Returns whether there are
    any. */
 bool find_clash(const struct faults *faults, const char **one, const char **other);
 
@@ -173,7 +173,7 @@ struct network {
     int socket;
     bool failed;
     uint64_t made, taken;
-    uint32_t faults; /* a bit for each fault that came true */
+    uint32_t faults; /* a bit for each fault that was made */
     bool has_counters;
     struct counters before;
     struct stamps stamps;

@@ -13,12 +13,12 @@ static uint64_t late_micros(const struct play *play, uint64_t rank) {
     return (play->late.greatest + 999) / 1000;
 }
 
-/* Prints the faults that came true, or those that didn't. Returns whether there were any. */
-static bool tell_faults(const struct play *play, bool came_true, const char *front) {
+/* Prints the faults that were made, or those that weren't. Returns whether there were any. */
+static bool tell_faults(const struct play *play, bool were_made, const char *front) {
     const char *before = front;
     for (size_t k = 0; k < play->words.faults.count; k++) {
         const struct fault *fault = &play->words.faults.list[k];
-        if ((play->networks[fault->network].faults >> k & 1) != came_true) continue;
+        if ((play->networks[fault->network].faults >> k & 1) != were_made) continue;
         printf("%s %s", before, fault->text);
         before = ",";
     }

@@ -36,7 +36,7 @@ static const char HELP[] =
     "                    flip B 20 1a      inverts the byte at index 1a (hexadecimal) of frame 20\n"
     "                    down A 1000       sends neither frame 1000 nor any after it\n"
     "                  With swap and early, whose frames have to be known before, the run is as written. Two faults of\n"
-    "                  which one keeps the other from coming true are refused\n";
+    "                  which one keeps the other from being made are refused\n";
 
 /* The name of the way to afdx_bench in messages. */
 static const char PIPE[] = "a pipe to afdx_bench";
@@ -49,32 +49,65 @@ static const char **text_of(struct words *words, const char *word) {
     return strcmp(word, "--seed") == 0 ? &words->seed : NULL;
 }
 
-/* Reads the value of --speed, --repeat or --fault. Returns whether the word is one of these, and whether its value is right. */
-static bool read_value(struct words *words, const char *word, const char *value, bool *is_right) {
+/* Reads the value of --speed, --repeat or --fault. Returns whether it is right, and prints what is wanted if it isn't. */
+static bool read_value(struct words *words, const char *word, const char *value) {
     char *end = NULL;
+    const char *wanted = "a number from 0.001 to 1000";
+    if (strcmp(word, "--fault") == 0) return read_fault(&words->faults, value);
     if (strcmp(word, "--speed") == 0) {
         words->speed = strtod(value, &end);
-        *is_right = end != value && *end == '\0' && words->speed >= 0.001 && words->speed <= 1000;
-    } else if (strcmp(word, "--repeat") == 0) {
+        if (end != value && *end == '\0' && words->speed >= 0.001 && words->speed <= 1000) return true;
+    } else {
+        wanted = "a whole number from 0 to 18446744073709551615";
         errno = 0;
         words->rounds = strtoull(value, &end, 10);
-        *is_right = *value >= '0' && *value <= '9' && *end == '\0' && errno == 0;
-    } else if (strcmp(word, "--fault") == 0) {
-        *is_right = read_fault(&words->faults, value);
-    } else {
-        return false;
+        if (*value >= '0' && *value <= '9' && *end == '\0' && errno == 0) return true;
     }
-    return true;
+    fprintf(stderr, "%s: %s is wanted, and \"%s\" is seen\n", word, wanted, value);
+    return false;
 }
 
-/* Gives the words that are no options their meaning. Returns whether they are as many as are wanted. */
+/* Reads an option; `value` is the word after it, or NULL. Returns how many words are read, or 0, with a message, if one of
+ * them is wrong. */
+static int read_option(struct words *words, const char *word, const char *value) {
+    const char **text = text_of(words, word);
+    bool is_priority = strcmp(word, "--priority") == 0, is_as_written = strcmp(word, "--as-written") == 0;
+    words->has_priority |= is_priority;
+    words->as_written |= is_as_written;
+    if (is_priority || is_as_written) return 1;
+    if (text == NULL && strcmp(word, "--speed") != 0 && strcmp(word, "--repeat") != 0 && strcmp(word, "--fault") != 0) {
+        fprintf(stderr, "%s: afdx_play has no such option\n", word);
+        return 0;
+    }
+    if (value == NULL) {
+        fprintf(stderr, "%s: a value is missing\n", word);
+        return 0;
+    }
+    if (text == NULL) return read_value(words, word, value) ? 2 : 0;
+    *text = value;
+    return 2;
+}
+
+/* Gives the words that are no options their meaning. Returns whether they are as many as are wanted, and prints how many are
+ * if they aren't. */
 static bool place_words(struct words *words, const char *const *paths, size_t count) {
     size_t k = 0;
-    bool is_right = count == (words->traffic == NULL ? 4U : 3U) && (words->traffic == NULL) == (words->seconds == NULL)
-        && (words->traffic != NULL || words->seed == NULL);
-    if (!is_right) return false;
+    bool is_made = words->traffic != NULL;
+    if (!is_made && (words->seconds != NULL || words->seed != NULL)) {
+        fprintf(stderr, "%s needs --traffic\n", words->seconds != NULL ? "--seconds" : "--seed");
+        return false;
+    }
+    if (is_made && words->seconds == NULL) {
+        fprintf(stderr, "--traffic needs --seconds\n");
+        return false;
+    }
+    if (count != (is_made ? 3U : 4U)) {
+        const char *wanted = is_made ? "with --traffic, PLAN and two interfaces" : "PLAN, SCRIPT and two interfaces";
+        fprintf(stderr, "%s are wanted, and %zu %s seen\n", wanted, count, count == 1 ? "word is" : "words are");
+        return false;
+    }
     words->plan = paths[k++];
-    if (words->traffic == NULL) words->script = paths[k++];
+    if (!is_made) words->script = paths[k++];
     words->interfaces[0] = paths[k++];
     words->interfaces[1] = paths[k];
     return true;
@@ -87,34 +120,24 @@ static int answer(const char *text, const char *more) {
 }
 
 int read_words(int argc, char **argv, struct words *words) {
-    const char *paths[4], *one, *other;
+    const char *paths[4] = {NULL, NULL, NULL, NULL}, *one, *other;
     size_t count = 0;
-    for (int k = 1; k < argc; k++) {
-        const char *word = argv[k], *value = k + 1 < argc ? argv[k + 1] : "", **text = text_of(words, word);
+    bool is_right = true;
+    for (int k = 1; k < argc && is_right;) {
+        const char *word = argv[k];
         if (strcmp(word, "--help") == 0) return answer(USAGE, HELP);
         if (strcmp(word, "--version") == 0) return answer("afdx_play " AFDX_VERSION, "\n");
-        bool is_right = true, has_value = text != NULL || read_value(words, word, value, &is_right);
-        if (text != NULL) *text = value;
-        if (!has_value) {
-            bool is_path = word[0] != '-' && count < 4, is_priority = strcmp(word, "--priority") == 0;
-            bool is_as_written = strcmp(word, "--as-written") == 0;
-            is_right = is_path || is_priority || is_as_written;
-            words->has_priority |= is_priority;
-            words->as_written |= is_as_written;
-            if (is_path) paths[count++] = word;
-        }
-        k += has_value;
-        if (!is_right || k >= argc) {
-            fprintf(stderr, "%s %s isn't understood\n%s", word, has_value ? value : "", USAGE);
-            return ENDS_UNREAD;
-        }
+        int taken = word[0] == '-' ? read_option(words, word, argv[k + 1]) : 1;
+        if (word[0] != '-' && count++ < 4) paths[count - 1] = word;
+        is_right = taken > 0;
+        k += taken;
     }
     words->as_written |= has_to_rehearse(&words->faults);
-    if (find_clash(&words->faults, &one, &other)) {
-        fprintf(stderr, "--fault %s: with `%s` it can't come true\n%s", other, one, USAGE);
-        return ENDS_UNREAD;
+    if (is_right && find_clash(&words->faults, &one, &other)) {
+        fprintf(stderr, "--fault %s: with `%s` it can't be made\n", other, one);
+        is_right = false;
     }
-    if (place_words(words, paths, count)) return -1;
+    if (is_right && place_words(words, paths, count)) return -1;
     fputs(USAGE, stderr);
     return ENDS_UNREAD;
 }

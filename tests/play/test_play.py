@@ -503,6 +503,51 @@ def try_ends(rig) -> tuple[list[str], str]:
 
 
 NO_FILE, NO_ROOM = "No such file or directory", "No space left on device"
+OF_BOTH = "is wanted, where NETWORK is A or B"
+# The form that is wanted of a fault on purpose, by its first word, and texts that lack it.
+NO_FAULTS = {
+    f"lose NETWORK FRAME {OF_BOTH} and FRAME is 1 or more":
+        ["lose", "lose A", "lose C 1", "lose A 0", "lose A 1 2", "lose A x", "lose A -1", "lose A +1", "lose A 18446744073709551616"],
+    f"repeat NETWORK FRAME {OF_BOTH} and FRAME is 1 or more": ["repeat", "repeat A 1 1"],
+    f"down NETWORK FRAME {OF_BOTH} and FRAME is 1 or more": ["down A 1 1"],
+    f"swap NETWORK FRAME OTHER {OF_BOTH}, FRAME is 1 or more and OTHER is a later frame up to 4294967295":
+        ["swap A 6 5", "swap A 5", "swap A 1 -1", "swap A 1 4294967296"],
+    f"number NETWORK FRAME NUMBER {OF_BOTH}, FRAME is 1 or more and NUMBER is 0 to 255": ["number A 1 256", "number A 1 -1"],
+    f"early NETWORK FRAME MICROS {OF_BOTH}, FRAME is 1 or more and MICROS is 0 to 4294967295": ["early A 1", "early A 1 4294967296"],
+    f"flip NETWORK FRAME INDEX {OF_BOTH}, FRAME is 1 or more and INDEX is hexadecimal, 0 to 5e9":
+        ["flip A 1 zz", "flip A 1 5ea", "flip A 1 -1"],
+    "lose, repeat, swap, number, early, flip or down is wanted first": ["", "frob A 1", "loser A 1", "los A 1"],
+}
+
+
+def wrong_words() -> Iterator[tuple[list[str], str]]:
+    """Words that the player refuses, and the line that it prints before the usage."""
+    run, made = ["demo.toml", "short.txt", "lo", "lo"], ["demo.toml", "lo", "lo", "--traffic", "none.csv", "--seconds", "1"]
+    for count in (0, 1, 2, 3):
+        seen = f"{count} word is seen" if count == 1 else f"{count} words are seen"
+        yield run[:count], f"PLAN, SCRIPT and two interfaces are wanted, and {seen}"
+    yield [*run, "more"], "PLAN, SCRIPT and two interfaces are wanted, and 5 words are seen"
+    yield [*run, *made[3:]], "with --traffic, PLAN and two interfaces are wanted, and 4 words are seen"
+    yield made[:5], "--traffic needs --seconds"
+    yield [*run, "--seconds", "1"], "--seconds needs --traffic"
+    yield [*run, "--seed", "1"], "--seed needs --traffic"
+    yield ["--frob"], "--frob: afdx_play has no such option"
+    for word in ("--speed", "--fault", "--capture", "--repeat", "--traffic", "--seconds", "--seed"):
+        yield [*run, word], f"{word}: a value is missing"
+    for text in ("", "0", "x", "1001", "2x", "-1", "nan"):
+        yield [*run, "--speed", text], f'--speed: a number from 0.001 to 1000 is wanted, and "{text}" is seen'
+    for text in ("", "x", "2x", "-1", "+1", "18446744073709551616"):
+        yield [*run, "--repeat", text], f'--repeat: a whole number from 0 to 18446744073709551615 is wanted, and "{text}" is seen'
+    for wanted, texts in NO_FAULTS.items():
+        yield from (([*run, "--fault", text], f'--fault: {wanted}, and "{text}" is seen') for text in texts)
+    many = [it for k in range(17) for it in ("--fault", f"lose A {k + 1}")]
+    yield [*run, *many], '--fault: at most 16 are wanted, and "lose A 17" is one more'
+    clashes = [("down A 20", "early A 25 800"), ("lose A 12", "early A 12 300"), ("lose B 12", "number B 12 200"), ("down A 9", "swap A 5 9"),
+               ("early A 9 1", "early A 9 2"), ("number A 9 1", "number A 9 2"), ("repeat A 9", "repeat A 9"), ("flip A 9 1", "flip A 9 1")]
+    for first, second in clashes:
+        for one, other in ((first, second), (second, first)):
+            by, last = (one, other) if first[:5] == second[:5] else (first, second)
+            yield [*run, "--fault", one, "--fault", other], f"--fault {last}: with `{by}` it can't be made"
 
 
 def try_words(program: str) -> Iterator[tuple[str, list[str]]]:
@@ -512,29 +557,15 @@ def try_words(program: str) -> Iterator[tuple[str, list[str]]]:
             file.write(text)
     with open("great.txt", "wb") as file:
         file.truncate(2**32 + 1)
-    rest, refused = ["short.txt", "lo", "lo"], "configuration refused: 6 BadBag\n"
-    rows = [([], 2, USAGE), (["demo.toml"], 2, USAGE), (["demo.toml", *rest, "more"], 2, "more"), (["--frob"], 2, "--frob"),
-            (["none.toml", *rest], 4, f"read failed\nnone.toml: {NO_FILE}\n"), (["wrong.toml", *rest], 2, refused),
-            (["demo.toml", "none.txt", "lo", "lo"], 4, f"read failed\nnone.txt: {NO_FILE}\n"),
-            ([".", *rest], 4, "read failed\n.: Is a directory\n"),
-            (["demo.toml", "great.txt", "lo", "lo"], 4, "read failed\ngreat.txt: it has more than 4 GiB, the most that is read\n"),
-            (["demo.toml", "short.txt", "nowhere", "lo"], 4, "write failed\nnowhere: No such device"),
-            (["demo.toml", *rest, "--capture", "short.txt"], 4, "write failed\nshort.txt: the command reads")]
-    bad = ["", "lose", "lose A", "lose C 1", "lose A 0", "lose A 1 2", "lose A x", "swap A 6 5", "swap A 5", "number A 1 256", "flip A 1 zz",
-           "flip A 1 5ea", "early A 1", "down A 1 1", "frob A 1", "lose A -1", "lose A +1", "lose A 18446744073709551616", "swap A 1 -1",
-           "number A 1 -1", "flip A 1 -1"]
-    clashes = [("down A 20", "early A 25 800"), ("lose A 12", "early A 12 300"), ("lose B 12", "number B 12 200"), ("down A 9", "swap A 5 9"),
-               ("early A 9 1", "early A 9 2"), ("number A 9 1", "number A 9 2"), ("repeat A 9", "repeat A 9"), ("flip A 9 1", "flip A 9 1")]
-    rows += [(["demo.toml", *rest, "--fault", it], 2, "--fault") for it in bad]
-    rows += [(["demo.toml", *rest, *(it for text in pair for it in ("--fault", text))], 2, f"--fault {last}: with `")
-             for first, second in clashes
-             for pair, last in (((first, second), second), ((second, first), first if first[:5] == second[:5] else second))]
-    rows += [(["demo.toml", *rest, "--speed", it], 2, "--speed") for it in ("", "0", "x", "1001", "2x", "-1", "nan")]
-    rows += [(["demo.toml", *rest, "--repeat", it], 2, "--repeat") for it in ("", "x", "2x", "-1", "+1", "18446744073709551616")]
-    rows += [(["demo.toml", *rest, it], 2, it) for it in ("--speed", "--fault", "--capture", "--repeat", "--traffic")]
-    traffic = ["--traffic", "none.csv", "--seconds", "1"]
-    rows += [(["demo.toml", *rest, *traffic], 2, USAGE), (["demo.toml", *rest[1:], *traffic[:2]], 2, USAGE),
-             (["demo.toml", *rest, "--seed", "1"], 2, USAGE), (["demo.toml", *rest[1:], *traffic], 4, "read failed\nnone.csv: No such file")]
+    rest, made = ["short.txt", "lo", "lo"], ["lo", "lo", "--traffic", "none.csv", "--seconds", "1"]
+    rows = [(words, 2, f"{told}\n{USAGE}") for words, told in wrong_words()]
+    rows += [(["none.toml", *rest], 4, f"read failed\nnone.toml: {NO_FILE}\n"), (["wrong.toml", *rest], 2, "configuration refused: 6 BadBag\n"),
+             (["demo.toml", "none.txt", "lo", "lo"], 4, f"read failed\nnone.txt: {NO_FILE}\n"),
+             ([".", *rest], 4, "read failed\n.: Is a directory\n"),
+             (["demo.toml", "great.txt", "lo", "lo"], 4, "read failed\ngreat.txt: it has more than 4 GiB, the most that is read\n"),
+             (["demo.toml", "short.txt", "nowhere", "lo"], 4, "write failed\nnowhere: No such device\n"),
+             (["demo.toml", *rest, "--capture", "short.txt"], 4, "write failed\nshort.txt: the command reads"),
+             (["demo.toml", *made], 4, f"read failed\nnone.csv: {NO_FILE}")]
     for words, status, start in rows:
         ran = subprocess.run([program, *words], capture_output=True, text=True, check=False)
         is_well = ran.returncode == status and ran.stderr.startswith(start) and not ran.stdout
@@ -544,7 +575,7 @@ def try_words(program: str) -> Iterator[tuple[str, list[str]]]:
     yield "afdx_play --help", [f"it lacks {lacks}: {told}"] if lacks or told.returncode or told.stderr else []
     version = subprocess.run([program, "--version"], capture_output=True, text=True, check=False).stdout
     yield "afdx_play --version", [] if version == f"afdx_play {re.search('AFDX_VERSION .(.*).', trying.text_of('crates/afdx/afdx.h'))[1]}\n" else [version]
-    yield from try_surroundings(program, ["demo.toml", *rest], ["demo.toml", *rest[1:], *traffic])
+    yield from try_surroundings(program, ["demo.toml", *rest], ["demo.toml", *made])
 
 
 def try_surroundings(program: str, run: list[str], made: list[str]) -> Iterator[tuple[str, list[str]]]:
