@@ -36,17 +36,24 @@ if [ $# -ne 1 ] || [[ $1 == -* ]] || [ -z "$1" ]; then
     echo "usage: bash install/install.sh [--built] PREFIX, or with [--target TARGET] [--cpu CPU]" >&2
     exit 2
 fi
-mkdir -p "$1"
-prefix=$(cd "$1" && pwd)
+[[ $1 == /* ]] && prefix=$1 || prefix=$PWD/$1
 cd "$(dirname "$0")/.."
+archive=libafdx${target:+-$target}${cpu:+-$cpu}.a
+needed=("crates/afdx/out/$archive")
+[ "$archive" != libafdx.a ] || needed+=(crates/afdx_bench/out/afdx_bench)
+for it in ${is_built:+"${needed[@]}"}; do
+    [ -e "$it" ] || { echo "$it isn't there: run install.sh without --built" >&2 && exit 1; }
+done
+# A folder that can't be made is known before the proofs.
+mkdir -p "$prefix"
+prefix=$(cd "$prefix" && pwd)
 
-# Proves and builds a file of a crate by a command of rt, if it is missing or a source is newer.
+# Proves and builds a file of a crate by a command of rt, if it is missing or a source is newer, unless what is built is taken.
 build() {
     local crate=$1 built=crates/$1/out/$2
     shift 2
-    if [ -n "$is_built" ]; then
-        [ -e "$built" ] || { echo "$built isn't built" >&2 && exit 1; }
-    elif [ ! -e "$built" ] || [ -n "$(find crates/*/src -name '*.rt' -newer "$built" -print -quit)" ]; then
+    [ -z "$is_built" ] || return 0
+    if [ ! -e "$built" ] || [ -n "$(find crates/*/src -name '*.rt' -newer "$built" -print -quit)" ]; then
         (cd "crates/$crate" && "$@" </dev/null)
     fi
 }
@@ -61,7 +68,6 @@ build_other() {
 }
 room=$(mktemp -d)
 trap 'rm -r "$room"' EXIT
-archive=libafdx${target:+-$target}${cpu:+-$cpu}.a
 if [ "$archive" = libafdx.a ]; then
     build afdx libafdx.a rt lib
     build afdx_bench afdx_bench rt run

@@ -19,15 +19,20 @@ case ${1-} in
 --help | -h) usage && exit 0 ;;
 --built) is_built=--built && shift ;;
 esac
-if [ $# -ne 1 ] || [[ $1 == -* ]] || [ -z "$1" ] || [ -e "$1" ]; then
+if [ $# -ne 1 ] || [[ $1 == -* ]] || [ -z "$1" ]; then
     echo "usage: bash install/release.sh [--built] FOLDER, which isn't there yet" >&2
+    exit 2
+fi
+if [ -e "$1" ]; then
+    echo "$1 is there already: name a new folder" >&2
     exit 2
 fi
 mkdir -p "$1"
 folder=$(cd "$1" && pwd)
 cd "$(dirname "$0")/.."
 room=$(mktemp -d)
-trap 'rm -rf "$room"' EXIT
+# (a folder without files isn't left behind)
+trap 'rm -rf "$room"; rmdir "$folder" 2>/dev/null || true' EXIT
 
 # Copies the tree, the second time to a longer path, and installs it.
 for it in one another-folder; do
@@ -35,6 +40,7 @@ for it in one another-folder; do
     if [ -n "$is_built" ]; then
         tar -c --exclude=./.git --exclude='./crates/*/out' . | tar -x -C "$room/$it"
         for file in afdx/out/libafdx.a afdx_bench/out/afdx_bench; do
+            [ -e "crates/$file" ] || { echo "crates/$file isn't there: run release.sh without --built" >&2 && exit 1; }
             mkdir -p "$room/$it/crates/${file%/*}"
             cp "crates/$file" "$room/$it/crates/$file"
         done
@@ -44,8 +50,7 @@ for it in one another-folder; do
     bash "$room/$it/install/install.sh" $is_built "$room/$it.prefix" >&2
 done
 if ! diff -r "$room/one.prefix" "$room/another-folder.prefix" >&2; then
-    echo "the two builds differ" >&2
-    rmdir "$folder"
+    echo "the two builds differ in the files above, though their sources are the same" >&2
     exit 1
 fi
 

@@ -85,6 +85,14 @@ def install(tried):
         is_well = told.returncode == status and "install.sh [--built] PREFIX" in (told.stderr if status else told.stdout)
         is_well = is_well and not os.listdir(tried.room)
         tried.tries.show(f"install.sh {' '.join(more)}: status {status}", [] if is_well else [f"{told}"])
+    # (a tree in which nothing is built)
+    shutil.copytree(f"{ROOT}/install", f"{tried.room}/tree/install")
+    for name, told in (("install", "crates/afdx/out/libafdx.a isn't there: run install.sh without --built\n"),
+                       ("release", "crates/afdx/out/libafdx.a isn't there: run release.sh without --built\n")):
+        ran = subprocess.run(["bash", f"tree/install/{name}.sh", "--built", "made"], cwd=tried.room, capture_output=True, text=True, check=False)
+        is_well = (ran.returncode, ran.stdout, ran.stderr) == (1, "", told) and os.listdir(tried.room) == ["tree"]
+        tried.tries.show(f"{name}.sh --built, nothing built", [] if is_well else [f"{ran}"])
+    shutil.rmtree(f"{tried.room}/tree")
     made = subprocess.run([*words, "--built", "not there/prefix"], cwd=tried.room, capture_output=True, text=True, check=False)
     if made.returncode:
         tried.tries.show("install.sh", [made.stdout[-1000:] + made.stderr[-1000:]])
@@ -382,9 +390,10 @@ def try_target(tried):
 def try_release(tried):
     """A release has its files, each with its digest; the archive holds what is installed, and the same again from a second run."""
     words = ["bash", f"{ROOT}/install/release.sh"]
-    for more, status in (([], 2), (["--frob"], 2), ([tried.room], 2), (["--help"], 0)):
+    usage, there = "release.sh [--built] FOLDER", f"{tried.room} is there already: name a new folder\n"
+    for more, status, wanted in (([], 2, usage), (["--frob"], 2, usage), ([tried.room], 2, there), (["--help"], 0, usage)):
         told = tried.ran([*words, *more])
-        is_well = told.returncode == status and "release.sh [--built] FOLDER" in (told.stderr if status else told.stdout)
+        is_well = told.returncode == status and wanted in (told.stderr if status else told.stdout)
         tried.tries.show(f"release.sh {' '.join(more)}: status {status}", [] if is_well else [f"{told}"])
     made = [subprocess.run([*words, "--built", f"{tried.room}/release{k}"], capture_output=True, text=True, check=False) for k in range(2)]
     if any(it.returncode for it in made):
