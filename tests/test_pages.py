@@ -169,7 +169,7 @@ def tried_pictures(tries, program):
         if text is None:
             tries.skip(f"no tshark for {name}")
         elif not pictures.is_kept(name, text):
-            yield f"{name} isn't what the tree yields: python3 tools/pictures.py --write"
+            yield f"{name} isn't what the tree yields: run tools/pictures.py with --write"
         elif len(text.encode()) > 40_000 or "href" in text:
             yield f"{name}: {len(text.encode())} bytes, or something from elsewhere"
         elif f"pictures/{name}" not in shown_by_pages:

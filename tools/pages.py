@@ -85,7 +85,7 @@ def main() -> int:
         if text == wanted:
             continue
         if not sys.argv[1:]:
-            print(f"{page}: a part isn't what the tree yields")
+            print(f"{page}: a part isn't what the tree yields: run tools/pages.py with --write")
             stale = 1
         else:
             with open(f"{ROOT}/{page}", "w", encoding="utf-8") as file:

@@ -168,7 +168,7 @@ def main() -> int:
     pictures = {name: text for name, text in made(built("afdx_bench")["LLVM"]).items() if text is not None}
     stale = [name for name, text in pictures.items() if not is_kept(name, text)]
     if not sys.argv[1:]:
-        print("".join(f"{FOLDER}/{name} isn't what the tree yields\n" for name in stale), end="")
+        print("".join(f"{FOLDER}/{name} isn't what the tree yields: run tools/pictures.py with --write\n" for name in stale), end="")
         return 1 if stale else 0
     os.makedirs(f"{ROOT}/{FOLDER}", exist_ok=True)
     for name in stale:

@@ -191,7 +191,7 @@ def main():
         if "--write" in sys.argv:
             with open(f"{ROOT}/{FOLDER}/{name}", "w", encoding="utf-8") as file:
                 file.write(text)
-        results.append("" if text_of(f"{FOLDER}/{name}") == text else f"{FOLDER}/{name} isn't what promises.toml yields: --write")
+        results.append("" if text_of(f"{FOLDER}/{name}") == text else f"{FOLDER}/{name} isn't what promises.toml yields: run tools/promises.py with --write")
     faults = [it for it in results if it]
     print("".join(f"{it}\n" for it in faults), end="")
     print(f"{len(results) - len(faults)} passed, {len(faults)} failed")
