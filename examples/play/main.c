@@ -9,6 +9,7 @@
 #include "play.h"
 
 #include <errno.h>
+#include <fcntl.h>
 #include <inttypes.h>
 #include <sched.h>
 #include <signal.h>
@@ -285,8 +286,16 @@ static void let_go(struct play *play) {
         if (play->networks[n].interface != NULL && play->networks[n].socket >= 0) close(play->networks[n].socket);
 }
 
+/* Opens standard streams that are closed, so that no socket or file takes their place: neither can be read or written. */
+static void hold_streams(void) {
+    static const int ways[] = {O_WRONLY, O_RDONLY, O_RDONLY};
+    for (int k = 0; k < 3; k++)
+        if (fcntl(k, F_GETFD) == -1 && open("/dev/null", ways[k]) != k) _exit(ENDS_BROKEN);
+}
+
 int main(int argc, char **argv) {
     static struct play play;
+    hold_streams();
     play.words.speed = 1;
     play.words.rounds = 1;
     play.networks[AFDX_A].socket = play.networks[AFDX_B].socket = -1;

@@ -398,7 +398,7 @@ def close_gaps(captured: list[tuple[int, str]]) -> int:
     return short
 
 
-FAULTS = ["lose A 10", "lose B 1", "repeat B 7", "swap A 5 6", "number A 9 200", "early A 12 300", "flip B 20 1a", "down A 30", "down B 1"]
+FAULTS = ["lose A 14", "lose B 1", "repeat B 7", "swap A 5 6", "number A 14 200", "early A 12 300", "flip B 20 1a", "down A 30", "down B 1"]
 
 
 def try_down(rig) -> tuple[list[str], str]:
@@ -410,6 +410,24 @@ def try_down(rig) -> tuple[list[str], str]:
     faults = played.differences(wanted)
     is_told = played.ran.returncode == 4 and played.ran.stderr == "write failed\nwireB: Network is down\n"
     return faults + ([] if is_told else [f"{played.ran}"]), ""
+
+
+def try_closed(rig) -> tuple[list[str], str]:
+    """With standard output closed no socket takes its place: the frames are those of the script alone, and the status is 4."""
+    plan, script = plan_of(1), script_of(1, 30, 8)
+    for name, text in (("plan.toml", plan), ("script.txt", script)):
+        with open(name, "w", encoding="utf-8") as file:
+            file.write(text)
+    words, how = ["plan.toml", "script.txt", "wireA", "wireB", "--as-written"], {"stderr": subprocess.PIPE, "text": True}
+    ran = subprocess.run([rig.program, *words], check=False, preexec_fn=lambda: os.close(1), **how)
+    time.sleep(0.3)
+    lines, faults = model.run(plan, script.encode())[1].splitlines(), []
+    for name, receiver in rig.receivers.items():
+        came = [data for _, data in receiver.take()["frames"]]
+        wanted = [line.split()[2] for line in lines if line.startswith(f"{name} ")]
+        faults += [] if came == wanted else [f"network {name}: {len(came)} frames for {len(wanted)}"]
+    is_told = (ran.returncode, ran.stderr) == (4, "write failed\nstandard output: Bad file descriptor\n")
+    return faults + ([] if is_told else [f"{ran}"]), ""
 
 
 def try_lost_carrier(rig) -> tuple[list[str], str]:
@@ -636,6 +654,7 @@ def inside(program: str, millis: int) -> int:
             patient(tries, f"by the clock, held up {stalls} times", lambda stalls=stalls: try_clock(rig, stalls))
         patient(tries, "as written, held up twice", lambda: try_written(rig))
         tries.attempt("an interface that is down", lambda: try_down(rig))
+        tries.attempt("standard output closed", lambda: try_closed(rig))
         patient(tries, "a carrier that is lost", lambda: try_lost_carrier(rig))
         patient(tries, "--repeat 3", lambda: try_repeat(rig))
         patient(tries, "--traffic", lambda: try_traffic(rig))
