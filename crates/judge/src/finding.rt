@@ -63,9 +63,9 @@ pub enum FindingKind {
     /// The frame differs at byte `seen` from the frame with its number on the other network, packet `wanted` of its
     /// file.
     Twin,
-    /// The frame has no twin on the other network within the skew. That network has a packet more than the skew before the
-    /// frame, and one more than the skew after it or none while 255 frames of the link came. `seen` is its sequence number,
-    /// `wanted` is 0.
+    /// The frame has no twin on the other network within the skew. That network has a packet more than the skew before
+    /// the frame, and one more than the skew after it, or none until the frame's own network came to its number again.
+    /// `seen` is its sequence number, `wanted` is 0.
     Missing,
 }
 

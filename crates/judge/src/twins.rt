@@ -29,9 +29,9 @@ impl Model for Waiting {
     ghost invariant = { λ w. 12 ≤ length w.bytes.items };
 }
 
-/// The frames of a link that wait for their twins, in the order in which they came. No network has two of one number, so
-/// they are at most 512. As long as both networks are recorded they are at most as many as came within the skew of the
-/// other network's latest packet.
+/// The frames of a link that wait for their twins, in the order in which they came. Each came within the skew of the
+/// link's last frame, or not more than the skew before the other network's latest packet, and no network has two of one
+/// number: so they are at most 512.
 #[derive(Drop)]
 pub(crate) struct Twins {
     waiting: Vec<Waiting>,

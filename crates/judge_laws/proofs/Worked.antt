@@ -134,6 +134,7 @@ worked = (
     late_fit = fit true false 7;
     late_recorded = record { of_a = second_run A; of_b = second_run B };
     late_nothing = refl;
+    common_nothing = refl;
   },
   record {
     sent = fails_by (λ sent. no_false_alarm_holds demo_plan two_accepted _ _ strict (from 0) (both_at 0 999000) sent (fit false false 0) (record {

@@ -1,5 +1,5 @@
--- Worked recordings of the demonstration plan: two messages of one byte, a frame each, sent to both networks.
-use Rattle.std.specs.Prelude.{◌≡◌, ◌+◌, ◌*◌, ◌≤◌, ℕ, true, false, List, [], ◌∷◌, All, None, Some, length}
+-- Worked recordings of the demonstration plan: two or three messages of one byte, a frame each, on both networks.
+use Rattle.std.specs.Prelude.{◌≡◌, ◌+◌, ◌*◌, ◌≤◌, ℕ, true, false, List, [], ◌∷◌, ◌++◌, All, None, Some, length}
 use Rattle.afdx_plan.specs.Demo.{demo_plan, demo_port}
 use Rattle.afdx_frame.specs.declared.net.Net.{Net}
 use Rattle.afdx_frame.specs.declared.net.Net.TheVariants.{A, B}
@@ -38,11 +38,20 @@ seconds_at at = packet A at (second_frame A) ∷ packet B at (second_frame B) �
 abbrev pub late : Options
 late = record strict { late = true }
 
+-- the frame of a third message
+abbrev pub third_frame : Net → List ℕ
+third_frame net = frame_of 1 demo_port (3 ∷ []) 2 (piece_at 1479 9 0) net 2
+
+-- network B was recorded from the second frame on, and network A up to it
+abbrev pub one_in_common : List OnNet
+one_in_common = packet A 7 (one_frame A) ∷ seconds_at 1000007 ++ packet B 2000007 (third_frame B) ∷ []
+
 -- both networks begin at this time
 abbrev pub from : ℕ → Net → ℕ
 from origin net = origin
 
--- The recording meets the premises, and nothing is found. Nor is anything in one that began after the first frame.
+-- The recording meets the premises, and nothing is found. Nor is anything in one that began after the first frame, or in
+-- one with a single frame on both networks.
 pub record FindsNothing : Type 0 where
   pub sent : IsSent demo_plan two_accepted (two_entries A) (two_entries B)
   pub fit : AreFit demo_plan strict (from 7)
@@ -51,6 +60,7 @@ pub record FindsNothing : Type 0 where
   pub late_fit : AreFit demo_plan late (from 7)
   pub late_recorded : IsRecording (from 7) late (two_entries A) (two_entries B) (seconds_at 1000007)
   pub late_nothing : findings demo_plan late (seconds_at 1000007) ≡ []
+  pub common_nothing : findings demo_plan late one_in_common ≡ []
 
 abbrev pub OnlyMissing : Options → List OnNet → Type 0
 OnlyMissing options recording = All IsMissing (findings demo_plan options recording)
@@ -86,10 +96,6 @@ pub record NeedsItsPremises : Type 0 where
   pub first : BothFail (PairRecorded strict (seconds_at 1000000)) (OnlyMissing strict (seconds_at 1000000))
 
 -- ---- nothing found
-
--- the frame of a third message
-abbrev pub third_frame : Net → List ℕ
-third_frame net = frame_of 1 demo_port (3 ∷ []) 2 (piece_at 1479 9 0) net 2
 
 abbrev pub three_entries : Net → List Entry
 three_entries net = entry 0 (one_frame net) ∷ entry 1000 (second_frame net) ∷ entry 2000 (third_frame net) ∷ []
@@ -166,7 +172,7 @@ begun_later = packet A 0 (one_frame A) ∷ packet A 1000000 (second_frame A) ∷
 abbrev pub first_alone : OnNet
 first_alone = packet A 0 (one_frame A)
 
--- network A's two frames, and then network B's, of which the first came earlier than both
+-- the two frames on network A, and then on network B, where the first came earlier than both
 abbrev pub turned : List OnNet
 turned = packet A 1000000 (second_frame A) ∷ packet A 2000000 (third_frame A)
     ∷ packet B 0 (second_frame B) ∷ packet B 2000000 (third_frame B) ∷ []
