@@ -1,3 +1,4 @@
+mod Counts
 mod Options
 mod Orders
 mod Packets

@@ -1,9 +1,9 @@
 -- What was written is read back.
-use Rattle.capture.proofs.Names.{A, All, All-head, All-tail, B, Blocks, Captured, Content, Entry, Fits, List, Little, Ok, Progress, ReadsBack, Recorded, Some, Whole, ap, append_assoc, arith, at_start, block_content, block_size, body_of, codes, content, content_of, drop_all, first_option, half, header_blocks, in_order, interface_block, interface_content, interface_of, length, map, moved, next, no_packet, packet_block, packet_blocks, packet_body, packet_for, packets_on, read_capture, read_from, read_within, refl, section_block, section_content, section_unit, size_of, sym, unit_of, with_option, with_options, with_packet, word, [], ℕ, ◌++◌, ◌+◌, ◌∙◌, ◌∷◌, ◌≡◌}
+use Rattle.capture.proofs.Names.{A, All, All-head, All-tail, B, Captured, Content, Entry, Fits, List, Ok, Progress, ReadsBack, Recorded, Some, Whole, ap, append_assoc, arith, at_start, block_content, block_size, body_of, codes, content, content_of, drop_all, first_option, half, header_blocks, in_order, interface_block, interface_content, interface_of, length, map, moved, next, no_packet, packet_block, packet_blocks, packet_body, packet_for, packets_on, read_capture, read_from, read_within, refl, section_block, section_content, section_unit, size_of, sym, unit_of, with_option, with_options, with_packet, word, [], ℕ, ◌++◌, ◌+◌, ◌∙◌, ◌∷◌, ◌≡◌}
 use Rattle.capture.proofs.Orders.{Merges, none, next_a, next_b, order_merges}
 use Rattle.capture.proofs.Packets.{length-packet_body}
 use Rattle.capture.proofs.Steps.{steps_on}
-use Rattle.capture.proofs.Written.{in_section, both, interface_for, length-block, block_next, packet_is_read}
+use Rattle.capture.proofs.Written.{in_section, both, interface_for, length-block, block_next, packet_content}
 
 -- ---- the frames of a network
 
@@ -31,17 +31,17 @@ all_fit (next_b {e} {a} {b} before m) h k = (All-head Fits e b k, all_fit m h (A
 -- ---- the blocks
 
 -- the header blocks
-section_read : next at_start section_block ≡ Ok (moved 28 (no_packet (Blocks Little) []))
+section_read : next at_start section_block ≡ Ok (moved 28 (no_packet (in_section [])))
 unfolding next unit_of section_unit size_of block_size content_of body_of section_content section_block word half
 section_read = refl
 
 first_read : next (in_section []) (interface_block (codes "A"))
-    ≡ Ok (moved 32 (no_packet (Blocks Little) (interface_for A ∷ [])))
+    ≡ Ok (moved 32 (no_packet (in_section (interface_for A ∷ []))))
 unfolding next unit_of size_of block_size content_of body_of block_content interface_content with_options first_option with_option interface_block word half
 first_read = refl
 
 second_read : next (in_section (interface_for A ∷ [])) (interface_block (codes "B"))
-    ≡ Ok (moved 32 (no_packet (Blocks Little) both))
+    ≡ Ok (moved 32 (no_packet (in_section both)))
 unfolding next unit_of size_of block_size content_of body_of block_content interface_content with_options first_option with_option interface_block word half
 second_read = refl
 
@@ -55,7 +55,7 @@ packet_next c fits =
     let body : List ℕ = packet_body (interface_of c.net) c.entry in
     let len = length-packet_body (interface_of c.net) c.entry in
     block_next 6 body both (omega arith) (λ same. cc) (omega (arith, len)) (omega (arith, len))
-    ∙ rw (packet_is_read c.net c.entry fits) refl
+    ∙ rw (packet_content c.net c.entry fits) refl
 
 -- what follows a block, over all its bytes
 reads_on : (at : ℕ) (p : Progress) (bytes more : List ℕ) (used : ℕ) (does : Content) → next p bytes
@@ -69,7 +69,7 @@ reads_on at p bytes more used does is whole =
 
 -- all packets, to the end
 packets_read : (cs : List Captured) (at : ℕ) → AllFit cs
-    → read_from at (in_section both) (packet_blocks cs) ≡ record { packets = map packet_of cs; end = Whole }
+    → read_from at (in_section both) (packet_blocks cs) ≡ record { packets = map packet_of cs; lost = 0; end = Whole }
 unfolding packet_blocks packet_block read_within next
 packets_read [] at fit = refl
 packets_read (c ∷ cs) at fit =
@@ -80,7 +80,7 @@ packets_read (c ∷ cs) at fit =
 
 -- the whole capture
 capture_read : (cs : List Captured) → AllFit cs
-    → read_capture (header_blocks ++ packet_blocks cs) ≡ record { packets = map packet_of cs; end = Whole }
+    → read_capture (header_blocks ++ packet_blocks cs) ≡ record { packets = map packet_of cs; lost = 0; end = Whole }
 unfolding header_blocks section_block interface_block word half
 capture_read cs fit =
     let on_a : List ℕ = interface_block (codes "A") in
@@ -88,10 +88,10 @@ capture_read cs fit =
     let rest : List ℕ = packet_blocks cs in
     ap read_capture (append_assoc section_block (on_a ++ on_b) rest
     ∙ ap (λ (l : List ℕ). section_block ++ l) (append_assoc on_a on_b rest))
-    ∙ reads_on 0 at_start section_block (on_a ++ (on_b ++ rest)) 28 (no_packet (Blocks Little) []) section_read refl
-    ∙ reads_on 28 (in_section []) on_a (on_b ++ rest) 32 (no_packet (Blocks Little)
-    (interface_for A ∷ [])) first_read refl
-    ∙ reads_on 60 (in_section (interface_for A ∷ [])) on_b rest 32 (no_packet (Blocks Little) both) second_read refl
+    ∙ reads_on 0 at_start section_block (on_a ++ (on_b ++ rest)) 28 (no_packet (in_section [])) section_read refl
+    ∙ reads_on 28 (in_section []) on_a (on_b ++ rest) 32 (no_packet
+    (in_section (interface_for A ∷ []))) first_read refl
+    ∙ reads_on 60 (in_section (interface_for A ∷ [])) on_b rest 32 (no_packet (in_section both)) second_read refl
     ∙ packets_read cs 92 fit
 
 -- what was written is read back
@@ -99,4 +99,4 @@ pub reads_back : ReadsBack
 reads_back a b fits_a fits_b =
     let merges = order_merges a b in
     let read = capture_read (in_order a b) (all_fit merges fits_a fits_b) in
-    rw read (record { whole = refl; first = (both_are merges).0; second = (both_are merges).1 })
+    rw read (record { whole = refl; none = refl; first = (both_are merges).0; second = (both_are merges).1 })

@@ -1,5 +1,5 @@
 -- Packets that were read, and those that follow them.
-use Rattle.capture.proofs.Names.{CaptureEnd, Err, List, None, Ok, Option, Packet, Progress, Recorded, Recording, Some, NoStep, ap, append-nil, append_assoc, arith, content, drop, drop-drop, ended, length, length-drop, map, map-append, moved, next, read_capture, read_from, read_within, recorded, recorded_if, refl, slice_range, sym, take_all, with_packet, [], ℕ, ◌++◌, ◌+◌, ◌-◌, ◌∙◌, ◌∷◌, ◌≡◌, ◌≤◌}
+use Rattle.capture.proofs.Names.{CaptureEnd, Err, List, None, Ok, Option, Packet, Progress, Recorded, Recording, Some, NoStep, ap, append-nil, append_assoc, arith, content, drop, drop-drop, ended, length, lost_by, length-drop, map, map-append, moved, next, read_capture, read_from, read_within, recorded, recorded_if, refl, slice_range, stopped, sym, take_all, with_packet, [], ℕ, ◌++◌, ◌+◌, ◌-◌, ◌∙◌, ◌∷◌, ◌≡◌, ◌≤◌}
 use Rattle.capture.proofs.Steps.{steps_on, used_of}
 
 -- packets in front of a recording
@@ -71,8 +71,8 @@ pub has_read_all : (bytes : List ℕ) (used : ℕ) (p : Progress) (packets : Lis
     → HasRead bytes used p packets → next p (left_of bytes used) ≡ Err stop
     → (let r : Recording = record {
       packets = map recorded packets;
-      end = ended p.format used
-          (left_of bytes used) stop;
+      lost = lost_by p;
+      end = ended p.format used (left_of bytes used) stop;
     } in r)
     ≡ read_capture bytes
 unfolding read_within
@@ -80,8 +80,8 @@ has_read_all bytes used p packets stop so left =
     let is : next p (drop used bytes) ≡ Err stop = rw left_is at left in
     rw left_is (
     let none : read_from used p (drop used bytes)
-    ≡ record { packets = []; end = ended p.format used (drop used bytes) stop } = rw is refl in
+    ≡ stopped p (ended p.format used (drop used bytes) stop) = rw is refl in
     let end : CaptureEnd = ended p.format used (drop used bytes) stop in
-    ap (λ (l : List Recorded). let r : Recording = record { packets = l; end = end } in r) (sym (append-nil
-    (map recorded packets)))
+    ap (λ (l : List Recorded). let r : Recording = record { packets = l; lost = lost_by p; end = end } in r)
+    (sym (append-nil (map recorded packets)))
     ∙ ap (after_packets (map recorded packets)) (sym none) ∙ so.same)

@@ -32,8 +32,8 @@ used_of p bytes step is =
 turn_same : (n m at : ℕ) (p : Progress) (bytes : List ℕ) → length bytes < suc n → length bytes < suc m
     → ((at : ℕ) (p : Progress) (rest : List ℕ) → length rest < n → length rest < m
     → read_within n at p rest ≡ read_within m at p rest) → (r : Result Moved NoStep) → next p bytes ≡ r
-    → then_read p.format at bytes (λ after used. read_within n (at + used) after (drop used bytes)) r
-    ≡ then_read p.format at bytes (λ after used. read_within m (at + used) after (drop used bytes)) r
+    → then_read p at bytes (λ after used. read_within n (at + used) after (drop used bytes)) r
+    ≡ then_read p at bytes (λ after used. read_within m (at + used) after (drop used bytes)) r
 turn_same n m at p bytes lt lt' same (Err stop) is = refl
 turn_same n m at p bytes lt lt' same (Ok step) is =
     let used = used_of p bytes step is in

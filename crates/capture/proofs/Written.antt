@@ -1,10 +1,10 @@
 -- The blocks that are written, as a reading takes them.
-use Rattle.capture.proofs.Names.{A, B, Block, Blocks, Entry, Fits, GREATEST_UNIT, Interface, List, Little, Net, Ok, Progress, Some, ap, append-nil, arith, block, block_content, block_size, body_of, content_of, drop, drop-append_seam, drop-drop, enhanced, eq-eqb, filled, interface_of, known, le-ltb, length, length-append, little_number-reads_back, moved, network_of, next, number_at, or_stop, packet_body, packet_for, refl, section_type, size_of, slice_range, sym, take-append_seam, take_all, time_of, unit_of, word, [], ℕ, ◌%◌, ◌*◌, ◌++◌, ◌+◌, ◌-◌, ◌/◌, ◌<◌, ◌>>=◌, ◌^◌, ◌∙◌, ◌∷◌, ◌≡◌, ◌≤◌}
+use Rattle.capture.proofs.Names.{A, B, Block, Blocks, Entry, Fits, GREATEST_UNIT, Interface, List, Little, Net, Ok, Progress, Some, ap, append-nil, arith, block, block_content, block_size, body_of, content_of, drop, drop-append_seam, drop-drop, enhanced, eq-eqb, filled, interface_of, known, le-ltb, length, length-append, little_number-reads_back, moved, network_of, next, nothing_lost, number_at, or_stop, packet_body, packet_for, refl, section_type, size_of, slice_range, sym, take-append_seam, take_all, time_of, unit_of, word, [], ℕ, ◌%◌, ◌*◌, ◌++◌, ◌+◌, ◌-◌, ◌/◌, ◌<◌, ◌>>=◌, ◌^◌, ◌∙◌, ◌∷◌, ◌≡◌, ◌≤◌, drop_all, fill, content, enhanced_content, options_in, packet_options, telling, with_packet_losses}
 use Rattle.capture.proofs.Packets.{length-packet_body}
 
 -- a reading in a little-endian section
 abbrev pub in_section : List Interface → Progress
-in_section interfaces = record { format = Blocks Little; interfaces = interfaces }
+in_section interfaces = record { format = Blocks Little; interfaces = interfaces; lost_before = 0 }
 
 length-word : (x : ℕ) → length (word x) ≡ 4
 unfolding word
@@ -95,7 +95,7 @@ block_next kind body interfaces lt other most even =
 
 -- the interfaces that are written
 abbrev pub interface_for : Net → Interface
-interface_for net = record { name = Some net; limit = 1514; resolution = 6; offset = 0 }
+interface_for net = record { name = Some net; limit = 1514; resolution = 6; offset = 0; losses = nothing_lost }
 
 abbrev pub both : List Interface
 both = interface_for A ∷ interface_for B ∷ []
@@ -139,7 +139,7 @@ packet_by net e body interface at captured original within bytes =
     ) refl
 
 -- a packet that is written
-pub packet_is_read : (net : Net) (e : Entry) → Fits e
+packet_is_read : (net : Net) (e : Entry) → Fits e
     → enhanced Little both (packet_body (interface_of net) e) ≡ Ok (packet_for net e)
 unfolding word
 packet_is_read net e fits =
@@ -158,3 +158,28 @@ packet_is_read net e fits =
     (omega (arith, high, low)) (little_number-reads_back 4 len (word len ++ frame) (omega arith))
     (little_number-reads_back 4 len frame (omega arith)) (omega (arith, length-packet_body i e))
     (let same : 20 + len - 20 ≡ len = omega arith in rw (same, take-append_seam) refl)
+
+-- a packet that is written has no options, so it tells of no losses
+tells_nothing : (net : Net) (e : Entry) → packet_options Little (packet_body (interface_of net) e) ≡ []
+    → telling (interface_of net) (with_packet_losses Little (packet_body (interface_of net) e)) (in_section both)
+    ≡ in_section both
+unfolding with_packet_losses options_in
+tells_nothing A e none = rw none refl
+tells_nothing B e none = rw none refl
+
+no_options : (net : Net) (e : Entry) → Fits e → packet_options Little (packet_body (interface_of net) e) ≡ []
+unfolding word
+no_options net e fits =
+    let i : ℕ = interface_of net in
+    let len : ℕ = length e.frame in
+    let captured : number_at Little 4 12 (packet_body i e) ≡ len =
+    little_number-reads_back 4 len (word len ++ filled e.frame) (omega arith) in
+    rw captured (drop_all (20 + (len + fill len)) (packet_body i e) (omega (arith, length-packet_body i e)))
+
+-- the content of a packet's block
+pub packet_content : (net : Net) (e : Entry) → Fits e
+    → enhanced_content (in_section both) Little (packet_body (interface_of net) e)
+    ≡ Ok (content (in_section both) (Some (packet_for net e)))
+unfolding enhanced_content
+packet_content net e fits =
+    rw (packet_is_read net e fits, tells_nothing net e (no_options net e fits)) refl

@@ -8,6 +8,7 @@ use Rattle.capture.specs.Capture.{fill}
 use Rattle.capture.specs.Units.{number_at}
 use Rattle.capture.specs.declared.interface.Interface.{Interface}
 use Rattle.capture.specs.declared.interface.OptionFront.{OptionFront}
+use Rattle.capture.specs.declared.losses.Losses.{Losses}
 use Rattle.capture.specs.declared.order.Order.{Order}
 use Rattle.capture.specs.declared.stop.Fault.{Fault}
 use Rattle.capture.specs.declared.stop.Fault.TheVariants.{BadOption, NoInterface, Time}
@@ -18,9 +19,13 @@ abbrev pub ◌>>=◌ : {X Y E : Type 0} → Result X E → (X → Result Y E) �
 Ok x >>= f = f x
 Err why >>= f = Err why
 
+-- losses before anything is told
+abbrev pub nothing_lost : Losses
+nothing_lost = record { before_packets = 0; by_interface = 0; by_system = 0 }
+
 -- an interface without options: its times are in microseconds since 1970
 abbrev pub plain : ℕ → Interface
-plain limit = record { name = None; limit = limit; resolution = 6; offset = 0 }
+plain limit = record { name = None; limit = limit; resolution = 6; offset = 0; losses = nothing_lost }
 
 -- the network with this name, A or B
 abbrev pub name_of : List ℕ → Option Net

@@ -35,9 +35,10 @@ packet_for net e = record {
   bytes = e.frame;
 }
 
--- a whole recording of the frames of network A and of network B
+-- a whole recording of the frames of network A and of network B, without losses
 pub record Tells (a b : List Entry) (recording : Recording) : Type 0 where
   pub whole : recording.end ≡ Whole
+  pub none : recording.lost ≡ 0
   pub first : packets_on A recording.packets ≡ map (packet_for A) a
   pub second : packets_on B recording.packets ≡ map (packet_for B) b
 
@@ -65,7 +66,7 @@ pub record ReadsTwoFrames : Type 0 where
   pub order : in_order (on_a ∷ []) (on_b ∷ []) ≡ on B on_b ∷ on A on_a ∷ []
   pub packets : packet_blocks (in_order (on_a ∷ []) (on_b ∷ [])) ≡ two_packets
   pub read : read_capture (capture_bytes (on_a ∷ []) (on_b ∷ []))
-      ≡ record { packets = packet_for B on_b ∷ packet_for A on_a ∷ []; end = Whole }
+      ≡ record { packets = packet_for B on_b ∷ packet_for A on_a ∷ []; lost = 0; end = Whole }
 
 -- the times of the capture rise, but the times of the two lists one after the other don't
 pub record RiseInTwoFrames : Type 0 where

@@ -1,13 +1,15 @@
--- Reading a capture: the effect of each unit on a reading, and the packets of all units.
+-- Reading a capture: the effect of each unit on a reading, and the packets and the losses of all units.
 use Rattle.std.specs.Prelude.{ℕ, Bool, false, zero, suc, ◌+◌, ◌-◌, ◌*◌, ◌%◌, ◌^◌, ◌≡◌, nat_eq, nat_lt, ◌||◌, if◌then◌else◌, List, [], ◌∷◌, ◌++◌, length, map, take, drop, slice_range, option_map, Option, Some, None, Result, Ok, Err}
 use Rattle.afdx_frame.specs.declared.net.Net.{Net}
 use Rattle.afdx_frame.specs.declared.net.Net.TheVariants.{A}
 use Rattle.capture.specs.Interfaces.{◌>>=◌, plain, with_options, time_of, known, network_of}
+use Rattle.capture.specs.Losses.{counted, lost_on, with_losses, with_packet_losses, with_statistics}
 use Rattle.capture.specs.Units.{number_at, unit_of, size_of}
 use Rattle.capture.specs.declared.stop.CaptureEnd.{CaptureEnd}
 use Rattle.capture.specs.declared.stop.CaptureEnd.TheVariants.{Whole, CutOff, Broken}
 use Rattle.capture.specs.declared.interface.Interface.{Interface}
 use Rattle.capture.specs.declared.interface.TheConstants.{MOST_INTERFACES}
+use Rattle.capture.specs.declared.losses.Losses.{Losses}
 use Rattle.capture.specs.declared.order.Order.{Order}
 use Rattle.capture.specs.declared.packet.Packet.{Packet}
 use Rattle.capture.specs.declared.reading.Recording.{Recording as ReadRecording}
@@ -106,13 +108,19 @@ from_record order clock whole = record {
 
 -- ---- steps
 
--- the progress of a reading: the format that was found, and the interfaces of the section, in their order
+-- the progress of a reading: the format that was found, the interfaces of the section, in their order, and the number
+-- of packets that were lost in earlier sections
 pub record Progress : Type 0 where
   pub format : Format
   pub interfaces : List Interface
+  pub lost_before : ℕ
 
 abbrev pub at_start : Progress
-at_start = record { format = Unknown; interfaces = [] }
+at_start = record { format = Unknown; interfaces = []; lost_before = 0 }
+
+-- the number of packets that were lost so far
+abbrev pub lost_by : Progress → ℕ
+lost_by p = counted p.lost_before (lost_on p.interfaces)
 
 -- the content of a unit: the progress of the reading after it, and its packet, if it has one
 pub record Content : Type 0 where
@@ -122,8 +130,8 @@ pub record Content : Type 0 where
 abbrev pub content : Progress → Option Recorded → Content
 content after packet = record { after = after; packet = packet }
 
-abbrev pub no_packet : Format → List Interface → Content
-no_packet format interfaces = record { after = record { format = format; interfaces = interfaces }; packet = None }
+abbrev pub no_packet : Progress → Content
+no_packet after = content after None
 
 -- the result of reading a unit: its content; a fault leaves the reading unchanged
 abbrev pub Does : Progress → Progress → Result (Option Packet) Fault → Result Content Fault → Type 0
@@ -137,48 +145,70 @@ body_of order whole =
     then Ok (slice_range whole 8 (length whole - 4))
     else Err EndLength
 
--- a section header: version 1 of the format, and the section's length, which isn't needed. It begins anew.
-unfoldable pub section_content : Order → List ℕ → Result Content Fault
-section_content order body =
+-- A section header: version 1 of the format, and the section's length, which isn't needed. Interfaces begin anew.
+unfoldable pub section_content : Progress → Order → List ℕ → Result Content Fault
+section_content p order body =
     if nat_lt (length body) 16 then Err Length
-    else (if nat_eq (number_at order 2 4 body) 1 then Ok (no_packet (Blocks order) []) else Err Version)
+    else (if nat_eq (number_at order 2 4 body) 1
+    then Ok (no_packet (record { format = Blocks order; interfaces = []; lost_before = lost_by p }))
+    else Err Version)
 
 -- an interface description block: Ethernet, the limit of captured bytes, and options
-unfoldable pub interface_content : Format → List Interface → Order → List ℕ → Result Content Fault
-interface_content format interfaces order body =
+unfoldable pub interface_content : Progress → Order → List ℕ → Result Content Fault
+interface_content p order body =
     if nat_lt (length body) 8 then Err Length
     else (if nat_eq (number_at order 2 0 body) 1
-    then (if nat_lt (length interfaces) MOST_INTERFACES
+    then (if nat_lt (length p.interfaces) MOST_INTERFACES
     then with_options order (length (drop 8 body)) (drop 8 body) (plain (number_at order 4 4 body))
-    >>= (λ i. Ok (no_packet format (interfaces ++ i ∷ [])))
+    >>= (λ i. Ok (no_packet (record p { interfaces = p.interfaces ++ i ∷ [] })))
     else Err Interfaces)
     else Err LinkType)
 
--- A block by its type: 1 describes an interface, and 3 and 6 are packets. 2 is a packet in a form that the format
--- has given up, which would be lost. Others are skipped.
+-- the losses of an interface changed
+abbrev pub telling : ℕ → (Losses → Losses) → Progress → Progress
+telling number change p = record p { interfaces = with_losses number change p.interfaces }
+
+-- an interface statistics block: its interface, its time, and options. One that is too short tells nothing.
+unfoldable pub statistics_content : Progress → Order → List ℕ → Content
+statistics_content p order body =
+    if nat_lt (length body) 12 then no_packet p
+    else no_packet (telling (number_at order 4 0 body) (with_statistics order body) p)
+
+-- an enhanced packet block, whose options may tell of losses on its interface
+unfoldable pub enhanced_content : Progress → Order → List ℕ → Result Content Fault
+enhanced_content p order body =
+    enhanced order p.interfaces body >>= (λ packet.
+    Ok (content (telling packet.interface (with_packet_losses order body) p) (Some packet)))
+
+-- A block by its type: 1 describes an interface, 3 and 6 are packets, and 5 is statistics. 2 is a packet in a form that
+-- the format has given up, which would be lost. Others are skipped.
 unfoldable pub block_content : Progress → Order → ℕ → List ℕ → Result Content Fault
 block_content p order kind body =
-    if nat_eq kind 1 then interface_content p.format p.interfaces order body
+    if nat_eq kind 1 then interface_content p order body
     else (if nat_eq kind 2 then Err Obsolete
     else (if nat_eq kind 3 then simple order p.interfaces body >>= (λ packet. Ok (content p (Some packet)))
-    else (if nat_eq kind 6 then enhanced order p.interfaces body >>= (λ packet. Ok (content p (Some packet)))
-    else Ok (content p None))))
+    else (if nat_eq kind 5 then Ok (statistics_content p order body)
+    else (if nat_eq kind 6 then enhanced_content p order body
+    else Ok (no_packet p)))))
 
 -- the header of a pcap file: version 2 of the format, and Ethernet, in the low 16 bits of its last word. All records
 -- belong to one interface.
-unfoldable pub header_content : Order → Clock → List ℕ → Result Content Fault
-header_content order clock whole =
+unfoldable pub header_content : Progress → Order → Clock → List ℕ → Result Content Fault
+header_content p order clock whole =
     if nat_eq (number_at order 2 4 whole) 2
     then (if nat_eq (number_at order 4 20 whole % 2 ^ 16) 1
-    then Ok (no_packet (Records order clock) (plain (number_at order 4 16 whole) ∷ []))
+    then Ok (no_packet (record p {
+      format = Records order clock;
+      interfaces = plain (number_at order 4 16 whole) ∷ [];
+    }))
     else Err LinkType)
     else Err Version
 
 -- the content of a whole unit
 unfoldable pub content_of : Progress → CaptureUnit → List ℕ → Result Content Fault
-content_of p (Section order) whole = body_of order whole >>= section_content order
+content_of p (Section order) whole = body_of order whole >>= section_content p order
 content_of p (Block order) whole = body_of order whole >>= block_content p order (number_at order 4 0 whole)
-content_of p (Header order clock) whole = header_content order clock whole
+content_of p (Header order clock) whole = header_content p order clock whole
 content_of p (Record order clock) whole = Ok (content p (Some (from_record order clock whole)))
 
 -- a fault stops a reading
@@ -207,14 +237,16 @@ next p bytes =
 
 -- ---- recordings
 
--- the packets that were read of a capture, in their order, and the end of the reading
+-- the packets that were read of a capture, in their order, the number of packets that were lost, and the end of the
+-- reading
 pub record Recording : Type 0 where
   pub packets : List Recorded
+  pub lost : ℕ
   pub end : CaptureEnd
 
 -- a recording that was read, with the bytes that its packets borrow
 abbrev pub recording_of : ReadRecording → Recording
-recording_of r = record { packets = map recorded r.packets.items; end = r.end }
+recording_of r = record { packets = map recorded r.packets.items; lost = r.lost; end = r.end }
 
 -- nothing is left of a capture of a known format
 abbrev pub is_end : Format → List ℕ → Bool
@@ -232,16 +264,20 @@ abbrev pub with_packet : Option Recorded → Recording → Recording
 with_packet None rest = rest
 with_packet (Some packet) rest = record rest { packets = packet ∷ rest.packets }
 
+-- no more packets: the losses so far, and the end
+abbrev pub stopped : Progress → CaptureEnd → Recording
+stopped p end = record { packets = []; lost = lost_by p; end = end }
+
 -- a step, and the recording after it; or the end
-abbrev pub then_read : Format → ℕ → List ℕ → (Progress → ℕ → Recording) → Result Moved NoStep → Recording
-then_read format at bytes more (Ok step) = with_packet step.content.packet (more step.content.after step.used)
-then_read format at bytes more (Err stop) = record { packets = []; end = ended format at bytes stop }
+abbrev pub then_read : Progress → ℕ → List ℕ → (Progress → ℕ → Recording) → Result Moved NoStep → Recording
+then_read p at bytes more (Ok step) = with_packet step.content.packet (more step.content.after step.used)
+then_read p at bytes more (Err stop) = stopped p (ended p.format at bytes stop)
 
 -- all that is read from a place on, in at most `most` steps
 unfoldable pub read_within : ℕ → ℕ → Progress → List ℕ → Recording
-read_within zero at p bytes = record { packets = []; end = CutOff at }
+read_within zero at p bytes = stopped p (CutOff at)
 read_within (suc most) at p bytes =
-    then_read p.format at bytes (λ after used. read_within most (at + used) after (drop used bytes)) (next p bytes)
+    then_read p at bytes (λ after used. read_within most (at + used) after (drop used bytes)) (next p bytes)
 
 -- each step takes 12 bytes at least, so that these steps suffice
 abbrev pub read_from : ℕ → Progress → List ℕ → Recording

@@ -1,6 +1,6 @@
 -- A capture that is read in windows, wherever they end, is read as a whole.
-use Rattle.std.specs.Prelude.{ℕ, ◌+◌, ◌<◌, ◌≡◌, List, [], ◌++◌, length, drop, Ok, Err}
-use Rattle.capture.specs.Recording.{Progress, Moved, next, with_packet, read_from}
+use Rattle.std.specs.Prelude.{ℕ, ◌+◌, ◌<◌, ◌≡◌, List, ◌++◌, length, drop, Ok, Err}
+use Rattle.capture.specs.Recording.{Progress, Moved, next, stopped, with_packet, read_from}
 use Rattle.capture.specs.declared.stop.CaptureEnd.TheVariants.{Broken}
 use Rattle.capture.specs.declared.stop.Fault.{Fault}
 use Rattle.capture.specs.declared.stop.NoStep.TheVariants.{More, Malformed}
@@ -20,7 +20,7 @@ StepsOn = (at : ℕ) (p : Progress) (window more : List ℕ) (step : Moved) → 
 -- a fault in a window ends the recording there
 abbrev pub StopsThere : Type 0
 StopsThere = (at : ℕ) (p : Progress) (window more : List ℕ) (fault : Fault) → next p window ≡ Err (Malformed fault)
-    → read_from at p (window ++ more) ≡ record { packets = []; end = Broken at fault }
+    → read_from at p (window ++ more) ≡ stopped p (Broken at fault)
 
 -- a window of this length is never too short
 abbrev pub IsRoomEnough : Type 0

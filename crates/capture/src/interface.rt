@@ -5,6 +5,7 @@ ghost use Rattle.std.specs.Option.{is_some};
 ghost use Rattle.capture.specs.Capture.{fill};
 ghost use Rattle.capture.specs.Interfaces.{plain, name_of as name_network, with_option, first_option, with_options, per_second, time_of, known, network_named, network_of as network_at};
 
+use crate::losses::Losses;
 use crate::order::Order;
 use crate::stop::Fault;
 use crate::write::fill_of;
@@ -14,7 +15,7 @@ use afdx_frame::Net;
 const SECOND: u128 = 1_000_000_000;
 
 // The codes of options.
-const END: u16 = 0;
+pub(crate) const END: u16 = 0;
 
 const NAME: u16 = 2;
 
@@ -36,13 +37,15 @@ pub struct Interface {
     pub resolution: u8,
     /// The seconds to be added to times, in two's complement.
     pub offset: u64,
+    /// The packets that were lost, as far as the recorder told.
+    pub losses: Losses,
 }
 
 /// The front of an option: its code, and the length of its value.
 #[derive(Clone, Copy, Debug, PartialEq, Eq)]
 pub(crate) struct OptionFront {
-    code: u16,
-    len: u16,
+    pub(crate) code: u16,
+    pub(crate) len: u16,
 }
 
 /// Returns the network with this name, `A` or `B`.
@@ -66,6 +69,7 @@ impl Interface {
             limit,
             resolution: 6,
             offset: 0,
+            losses: Losses::default(),
         }
     }
 
@@ -123,7 +127,7 @@ impl Interface {
 
 /// Returns the option with which these bytes begin; it ends within them.
 #[tactic(auto, unfolding(crate::specs::Interfaces::first_option))]
-fn first_option(order: Order, bytes: &[u8]) -> Result<OptionFront, Fault>
+pub(crate) fn first_option(order: Order, bytes: &[u8]) -> Result<OptionFront, Fault>
     ensures value { result ≡ first_option order bytes.now }
     ensures within { IfOk result (λ front. 4 + (front.len + fill front.len) ≤ length bytes.now) }
 {

@@ -4,6 +4,7 @@
 mod in_order;
 mod interface;
 pub mod laws;
+mod losses;
 mod order;
 mod packet;
 mod reading;
@@ -13,6 +14,7 @@ mod write;
 
 pub use in_order::next_net;
 pub use interface::{Interface, MOST_INTERFACES};
+pub use losses::Losses;
 pub use order::Order;
 pub use packet::Packet;
 pub use reading::{Reading, Recording, Step, read_capture};

@@ -1,5 +1,5 @@
 //! The packets of a capture.
-ghost use Rattle.std.specs.Prelude.{◌≡◌, ◌+◌, ◌≤◌, length};
+ghost use Rattle.std.specs.Prelude.{◌≡◌, ◌+◌, ◌≤◌, length, OnOk};
 ghost use Rattle.capture.specs.Recording.{Gives, enhanced, simple, from_record, recorded, captured_of};
 
 use crate::interface::{Interface, known, network_of};
@@ -30,7 +30,8 @@ pub(crate) fn enhanced<'a>(
     interfaces: &[Interface],
     body: &'a [u8],
 ) -> Result<Packet<'a>, Fault>
-    ensures { Gives result (enhanced order interfaces.now body.now) }
+    ensures value { Gives result (enhanced order interfaces.now body.now) }
+    ensures least { OnOk result (20 ≤ length body.now) }
 {
     if body.len() < 20 {
         return Err(Fault::Length);

@@ -1,7 +1,7 @@
 //! Reading a capture, a unit at a time, or as a whole.
 ghost use Rattle.std.specs.Prelude.{◌≡◌, ℕ, ◌+◌, ◌≤◌, ◌<◌, length, IfOk, IfErr, OnOk, OnErr};
 ghost use Rattle.capture.specs.Units.{least_size};
-ghost use Rattle.capture.specs.Recording.{Progress, at_start, section_content, interface_content, block_content, header_content, body_of, content, content_of, Does, moved, next, ended, recorded_if, recording_of, read_capture as recording_in};
+ghost use Rattle.capture.specs.Recording.{Progress, at_start, section_content, interface_content, block_content, header_content, statistics_content, enhanced_content, no_packet, lost_by, body_of, content, content_of, Does, moved, next, ended, recorded_if, recording_of, read_capture as recording_in};
 
 use crate::interface::{Interface, MOST_INTERFACES};
 use crate::order::Order;
@@ -19,6 +19,8 @@ const OBSOLETE_TYPE: u32 = 2;
 
 const SIMPLE_TYPE: u32 = 3;
 
+const STATISTICS_TYPE: u32 = 5;
+
 const ENHANCED_TYPE: u32 = 6;
 
 /// The result of a step: the packet of the unit that was read, if it has one, and the number of the unit's bytes.
@@ -33,12 +35,14 @@ pub struct Step<'a> {
 pub struct Reading {
     format: Format,
     interfaces: ArrayVec<Interface, MOST_INTERFACES>,
+    // The packets that were lost in earlier sections.
+    lost_before: u64,
 }
 
 impl Model for Reading {
     ghost Value = { Progress };
 
-    ghost view = { λ r. record { format = r.format; interfaces = r.interfaces.items } };
+    ghost view = { λ r. record { format = r.format; interfaces = r.interfaces.items; lost_before = r.lost_before } };
 }
 
 impl Reading {
@@ -49,7 +53,20 @@ impl Reading {
         Reading {
             format: Format::Unknown,
             interfaces: ArrayVec::new(),
+            lost_before: 0,
         }
+    }
+
+    /// Returns the number of packets that were lost so far, as the recorder told.
+    #[tactic(auto, using(crate::proofs::Counts::lost_more, crate::proofs::Counts::lost_done))]
+    pub fn lost(&self) -> u64
+        ensures { result ≡ lost_by self.now }
+    {
+        let mut lost = self.lost_before;
+        for interface in self.interfaces.iter() {
+            lost = lost.saturating_add(interface.losses.total());
+        }
+        lost
     }
 
     /// Returns the end of the capture after a reading that stopped: `at` bytes of it were read, and `rest` is all that
@@ -64,7 +81,8 @@ impl Reading {
         }
     }
 
-    /// Reads the unit that begins the window. The bytes that it used are left out of the next window.
+    /// Reads the unit that begins the window. The bytes that it used are left out of the next window: a second step
+    /// over them would count the losses that they tell again.
     #[tactic(auto, unfolding(crate::specs::Recording::next))]
     pub fn step<'a>(&mut self, window: &'a [u8]) -> Result<Step<'a>, NoStep>
         ensures ok { IfOk result (λ s. next self.old window.now
@@ -110,7 +128,7 @@ impl Reading {
         order: Order,
         body: &'a [u8],
     ) -> Result<Option<Packet<'a>>, Fault>
-        ensures { Does self.old self.new result (section_content order body.now) }
+        ensures { Does self.old self.new result (section_content self.old order body.now) }
     {
         if body.len() < 16 {
             return Err(Fault::Length);
@@ -118,6 +136,7 @@ impl Reading {
         if order.half_at(body, 4) != 1 {
             return Err(Fault::Version);
         }
+        self.lost_before = self.lost();
         self.format = Format::Blocks(order);
         self.interfaces.clear();
         Ok(None)
@@ -132,7 +151,7 @@ impl Reading {
         whole: &'a [u8],
     ) -> Result<Option<Packet<'a>>, Fault>
         requires { 24 ≤ length whole.now }
-        ensures { Does self.old self.new result (header_content order clock whole.now) }
+        ensures { Does self.old self.new result (header_content self.old order clock whole.now) }
     {
         if order.half_at(whole, 4) != 2 {
             return Err(Fault::Version);
@@ -154,7 +173,7 @@ impl Reading {
         order: Order,
         body: &'a [u8],
     ) -> Result<Option<Packet<'a>>, Fault>
-        ensures { Does self.old self.new result (interface_content self.old.format self.old.interfaces order body.now) }
+        ensures { Does self.old self.new result (interface_content self.old order body.now) }
     {
         if body.len() < 8 {
             return Err(Fault::Length);
@@ -185,9 +204,44 @@ impl Reading {
             INTERFACE_TYPE => self.add_interface(order, body),
             OBSOLETE_TYPE => Err(Fault::Obsolete),
             SIMPLE_TYPE => Ok(Some(simple(order, self.interfaces.as_slice(), body)?)),
-            ENHANCED_TYPE => Ok(Some(enhanced(order, self.interfaces.as_slice(), body)?)),
+            STATISTICS_TYPE => {
+                self.take_statistics(order, body);
+                Ok(None)
+            }
+            ENHANCED_TYPE => self.take_enhanced(order, body),
             _ => Ok(None),
         }
+    }
+
+    /// Takes the statistics of an interface.
+    #[tactic(auto, using(crate::proofs::Counts::losses_at, crate::proofs::Counts::losses_past), unfolding(crate::specs::Recording::statistics_content))]
+    fn take_statistics(&mut self, order: Order, body: &[u8])
+        ensures { no_packet self.new ≡ statistics_content self.old order body.now }
+    {
+        if body.len() < 12 {
+            return;
+        }
+        let number = order.word_at(body, 0) as usize;
+        if let Some(interface) = self.interfaces.get_mut(number) {
+            interface.losses = interface.losses.with_statistics(order, body);
+        }
+    }
+
+    /// Takes an enhanced packet block.
+    #[tactic(auto, using(crate::proofs::Counts::losses_at, crate::proofs::Counts::losses_past), unfolding(crate::specs::Recording::enhanced_content))]
+    fn take_enhanced<'a>(
+        &mut self,
+        order: Order,
+        body: &'a [u8],
+    ) -> Result<Option<Packet<'a>>, Fault>
+        ensures { Does self.old self.new result (enhanced_content self.old order body.now) }
+    {
+        let packet = enhanced(order, self.interfaces.as_slice(), body)?;
+        let number = packet.interface as usize;
+        if let Some(interface) = self.interfaces.get_mut(number) {
+            interface.losses = interface.losses.with_packet(order, body);
+        }
+        Ok(Some(packet))
     }
 }
 
@@ -205,10 +259,12 @@ fn body<'a>(order: Order, whole: &'a [u8]) -> Result<&'a [u8], Fault>
     Ok(&whole[8..end])
 }
 
-/// The packets that were read of a capture, in their order, and the end of the reading.
+/// The packets that were read of a capture, in their order, the number of packets that were lost, as the recorder told,
+/// and the end of the reading.
 #[derive(Debug, Drop)]
 pub struct Recording<'a> {
     pub packets: Vec<Packet<'a>>,
+    pub lost: u64,
     pub end: CaptureEnd,
 }
 
@@ -230,7 +286,8 @@ pub fn read_capture<'a>(alloc: Global, bytes: &'a [u8]) -> Result<Recording<'a>,
             }
             Err(stop) => {
                 let end = reading.end(used as u64, &bytes[used..], stop);
-                return Ok(Recording { packets, end });
+                let lost = reading.lost();
+                return Ok(Recording { packets, lost, end });
             }
         }
     }
