@@ -4,8 +4,11 @@ import random
 import struct
 from typing import NamedTuple
 
-SECTION, INTERFACE, OBSOLETE, SIMPLE, ENHANCED = 0x0A0D0D0A, 1, 2, 3, 6
+SECTION, INTERFACE, OBSOLETE, SIMPLE, STATISTICS, ENHANCED = 0x0A0D0D0A, 1, 2, 3, 5, 6
 NAME, RESOLUTION, OFFSET = 2, 9, 14
+# The options that count lost packets: of an enhanced packet block, and the two of an interface statistics block.
+DROP_COUNT, IF_DROP, OS_DROP = 4, 5, 7
+GREATEST = 2**64 - 1
 MAGICS = {0xA1B2C3D4: 1000, 0xA1B23C4D: 1}
 LONGEST, MOST_INTERFACES = 1 << 20, 256
 SECOND = 10**9
@@ -41,6 +44,20 @@ def want(is_so: bool, fault: str) -> None:
         raise Malformed(fault)
 
 
+def counts_in(order: str, options: bytes) -> dict[int, int]:
+    """The counts in options, by their codes: for each code that of its first option of 8 bytes. Option 0 ends the options, and so
+    does one that runs past them."""
+    counts, at = {}, 0
+    while at + 4 <= len(options):
+        code, length = struct.unpack_from(order + "HH", options, at)
+        value, at = options[at + 4 : at + 4 + length], at + 4 + length + -length % 4
+        if code == 0 or at > len(options):
+            break
+        if length == 8:
+            counts.setdefault(code, *struct.unpack(order + "Q", value))
+    return counts
+
+
 class Interface:
     """An interface that a section describes."""
 
@@ -50,6 +67,7 @@ class Interface:
         if link != 1:
             raise Malformed("LinkType", link)
         self.name, self.resolution, self.offset = None, 6, 0
+        self.dropped, self.told = 0, {IF_DROP: 0, OS_DROP: 0}
         at = 8
         while at < len(body):
             want(at + 4 <= len(body), "BadOption")
@@ -72,6 +90,10 @@ class Interface:
             want(len(value) == 8, "BadOption")
             (self.offset,) = struct.unpack(order + "q", value)
 
+    def lost(self) -> int:
+        """How many of its packets were lost, by its packets or by its last statistics, whichever tells more."""
+        return max(self.dropped, sum(self.told.values()))
+
     def time(self, ticks: int) -> int:
         """The nanoseconds since 1970."""
         units = 2 ** (self.resolution - 128) if self.resolution >= 128 else 10**self.resolution
@@ -87,6 +109,8 @@ class Reader:
         self.data, self.packets, self.interfaces = data, [], []
         # the interface of each packet, and the link type that ended the reading
         self.numbers, self.link = [], None
+        # how many packets were lost in earlier sections, and in all
+        self.lost_before = self.lost = 0
         self.step, self.at, self.order, self.unit = self.first, 0, "", 0
         is_known = False
         while True:
@@ -100,6 +124,7 @@ class Reader:
                 self.end = End(fault.args[0], self.at)
                 self.link = fault.args[1] if fault.args[1:] else None
                 break
+        self.lost = min(self.lost_so_far(), GREATEST)
 
     def front(self, form: str, offset: int = 0) -> tuple:
         """Numbers of the first 12 bytes of the unit."""
@@ -153,6 +178,7 @@ class Reader:
         if kind == SECTION:
             want(len(body) >= 16, "Length")
             want(struct.unpack_from(order + "H", body, 4) == (1,), "Version")
+            self.lost_before = self.lost_so_far()
             self.interfaces, self.order, self.step = [], order, self.block
         else:
             self.body(kind, body)
@@ -173,6 +199,11 @@ class Reader:
             want(4 + captured <= len(body), "Captured")
             self.numbers.append(0)
             self.packets.append(Packet(self.network(0), None, original, body[4 : 4 + captured]))
+        elif kind == STATISTICS:
+            number = struct.unpack_from(order + "I", body)[0] if len(body) >= 12 else len(self.interfaces)
+            if number < len(self.interfaces):
+                counts = counts_in(order, body[12:])
+                self.interfaces[number].told |= {code: counts[code] for code in (IF_DROP, OS_DROP) if code in counts}
         elif kind == ENHANCED:
             want(len(body) >= 20, "Length")
             number, high, low, captured, original = struct.unpack_from(order + "IIIII", body)
@@ -181,6 +212,11 @@ class Reader:
             at = interface.time(high << 32 | low)
             self.numbers.append(number)
             self.packets.append(Packet(self.network(number), at, original, body[20 : 20 + captured]))
+            interface.dropped += counts_in(order, body[20 + captured + -captured % 4 :]).get(DROP_COUNT, 0)
+
+    def lost_so_far(self) -> int:
+        """How many packets were lost."""
+        return self.lost_before + sum(it.lost() for it in self.interfaces)
 
     def known(self, number: int) -> Interface:
         """The interface of a number."""

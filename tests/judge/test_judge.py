@@ -23,6 +23,7 @@ sys.dont_write_bytecode = True
 sys.path[:0] = [f"{ROOT}/tests", HERE, f"{ROOT}/tests/run", f"{ROOT}/tests/explain", f"{ROOT}/tests/report"]
 import breaking  # noqa: E402
 import edges  # noqa: E402
+import losses  # noqa: E402
 import refusals  # noqa: E402
 import refusals_wanted  # noqa: E402
 import taps  # noqa: E402
@@ -321,7 +322,8 @@ def main() -> int:
             tries.attempt(task.__name__, lambda task=task: (task(), ""))
         for task in (taps.several, taps.apart, taps.by_byte, taps.silent):
             tries.attempt(f"{task.__name__}, {counts.mixed} times", lambda task=task: (tried(task, range(counts.mixed)), ""))
-        for task in (taps.foreign, taps.live, taps.many):
+        tries.attempt(f"losses, {counts.mixed} times", lambda: (tried(losses.lost_by_recorders, range(counts.mixed)), ""))
+        for task in (losses.by_hand, taps.foreign, taps.live, taps.many):
             tries.attempt(task.__name__, lambda task=task: (task(), ""))
         tries.attempt("the example of the guide", lambda: (guide(), ""))
         tries.attempt("more findings than lines", lambda: (crowd(), ""))

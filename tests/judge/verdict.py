@@ -221,6 +221,7 @@ def read_line(place: int, reader: Reader, is_only: bool) -> str:
     others = sum(it.network is None for it in reader.packets) if is_only else 0
     text = f"capture {place}: {len(reader.packets)} packets"
     text += f", {others} of other interfaces" if others else ""
+    text += f", {reader.lost} lost by the recorder" if reader.lost else ""
     if reader.end.fault:
         at = f"at byte {reader.end.at}"
         told = {"CutOff": f"cut off {at}", "Format": "neither pcapng nor pcap", "LinkType": f"link type {reader.link} {at}"}
@@ -354,7 +355,7 @@ def judged(
     text = lines_of(tap.findings, silent)
     text += "".join(read_line(place, reader, is_only) for place, reader in enumerate(readers, 1))
     is_found = bool(tap.findings or silent)
-    return 2 if any(it.end.fault for it in readers) else int(is_found), text + tap.summary(), tap.findings
+    return 2 if any(it.end.fault or it.lost for it in readers) else int(is_found), text + tap.summary(), tap.findings
 
 
 def silent_of(tap: Tap, judge: Judge) -> list[tuple[int, str]]:

@@ -128,7 +128,7 @@ fn save_page(alloc: Global, page: File, hearing: &Hearing, origin: &Origin<'_>) 
     output.flush()
 }
 
-/// The captures that were heard, and whether each was read to its end.
+/// The captures that were heard, and whether each was read to its end and lacks no packet.
 #[derive(Drop)]
 struct Heard<'a> {
     captures: Vec<CaptureRow<'a>>,
@@ -166,14 +166,14 @@ fn hear<'a, W: Write>(
     if !case.json {
         write_captures(writer, hearing, captures.as_slice())?;
     }
-    let is_whole = a.is_whole() && second_is_whole(case, &b);
+    let is_whole = a.is_complete() && second_is_complete(case, &b);
     Ok(Heard { captures, is_whole })
 }
 
-/// Returns whether the second capture, if there is one, was read to its end.
-fn second_is_whole(case: &Case, b: &Option<Source<'_>>) -> bool {
+/// Returns whether the second capture, if there is one, was read to its end and lacks no packet.
+fn second_is_complete(case: &Case, b: &Option<Source<'_>>) -> bool {
     match (b, &case.other) {
-        (Some(b), Some(_)) => b.is_whole(),
+        (Some(b), Some(_)) => b.is_complete(),
         _ => true,
     }
 }

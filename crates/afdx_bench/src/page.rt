@@ -15,7 +15,7 @@ const SECOND: u128 = 1_000_000_000;
 const MICRO: u128 = 1_000;
 
 /// The origin of a page: the words of the command, the digests of the plans, in their order, each capture's end, and
-/// whether all were read to their end.
+/// whether all were read to their end and lack no packet.
 #[derive(Clone, Copy)]
 pub struct Origin<'a> {
     pub case: &'a Case,

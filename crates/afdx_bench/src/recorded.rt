@@ -71,6 +71,7 @@ pub fn capture_row<'a>(
         file,
         packets: source.packets(),
         others: source.others(),
+        lost: source.lost(),
         whole: source.is_whole(),
         told: format!(in alloc; "{source}")?,
     })

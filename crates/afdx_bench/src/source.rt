@@ -5,7 +5,7 @@ use crate::findings::NoFrames;
 use crate::hearing::Hearing;
 use crate::stop::{Cause, Stop};
 use afdx_frame::Net;
-use capture::{CaptureEnd, Fault, GREATEST_UNIT, NoStep, Reading};
+use capture::{CaptureEnd, Fault, GREATEST_UNIT, NoStep, Packet, Reading};
 use std::alloc::{AllocError, Global};
 use std::fmt;
 use std::fs::File;
@@ -37,8 +37,85 @@ impl Part {
     }
 }
 
-/// A capture, and a window on it. `Display` prints the number of packets that were read, the number of packets from
-/// other interfaces, and the end.
+/// The numbers of packets that were read, and of those that came from other interfaces.
+#[derive(Clone, Copy)]
+struct Counts {
+    packets: u64,
+    others: u64,
+}
+
+impl Counts {
+    /// Counts a packet of the capture with this number, and has it judged if it has a network.
+    fn take<'a, W: Write>(
+        &mut self,
+        writer: &mut W,
+        hearing: &mut Hearing,
+        capture: u8,
+        net: Option<Net>,
+        packet: &Packet<'_>,
+    ) -> Result<(), Stop<'a>> {
+        self.packets = self.packets.saturating_add(1);
+        match net {
+            Some(net) => hearing.hear(writer, capture, net, self.packets, packet)?,
+            None if packet.network.is_some() => {}
+            None => self.others = self.others.saturating_add(1),
+        }
+        Ok(())
+    }
+}
+
+/// A packet that was read and not judged, if there is one, and its bytes. A second step over it would count its losses
+/// twice.
+#[derive(Drop)]
+struct Ahead {
+    kept: Option<Kept>,
+    bytes: Vec<u8>,
+}
+
+/// A packet without its bytes, and the network whose packet it is.
+#[derive(Clone, Copy)]
+struct Kept {
+    net: Net,
+    interface: u32,
+    network: Option<Net>,
+    at: Option<u128>,
+    original: u32,
+}
+
+impl Ahead {
+    /// Keeps a packet.
+    fn keep(&mut self, net: Net, packet: &Packet<'_>) -> Result<(), AllocError> {
+        self.bytes.clear();
+        self.bytes.extend_from_slice(packet.bytes)?;
+        self.kept = Some(Kept {
+            net,
+            interface: packet.interface,
+            network: packet.network,
+            at: packet.at,
+            original: packet.original,
+        });
+        Ok(())
+    }
+
+    /// Returns a packet that was kept.
+    fn packet(&self, kept: Kept) -> Packet<'_> {
+        Packet {
+            interface: kept.interface,
+            network: kept.network,
+            at: kept.at,
+            original: kept.original,
+            bytes: self.bytes.as_slice(),
+        }
+    }
+}
+
+/// Returns whether a packet of this time is later than another time; each is later than none.
+fn is_later(at: Option<u128>, until: Option<u128>) -> bool {
+    !matches!(until, Some(time) if at.unwrap_or(0) <= time)
+}
+
+/// A capture, and a window on it. `Display` prints the number of packets that were read, the numbers of packets from
+/// other interfaces and of packets that the recorder lost, and the end.
 #[derive(Drop)]
 pub struct Source<'a> {
     file: File,
@@ -53,8 +130,8 @@ pub struct Source<'a> {
     end: usize,
     // The bytes of the capture that are used.
     used: u64,
-    packets: u64,
-    others: u64,
+    counts: Counts,
+    ahead: Ahead,
     // The time of the next packet, at first the least, and the end of the capture once it is read.
     next: u128,
     ended: Option<CaptureEnd>,
@@ -83,8 +160,14 @@ impl<'a> Source<'a> {
             start: 0,
             end: 0,
             used: 0,
-            packets: 0,
-            others: 0,
+            counts: Counts {
+                packets: 0,
+                others: 0,
+            },
+            ahead: Ahead {
+                kept: None,
+                bytes: Vec::new(alloc),
+            },
             next: 0,
             ended: None,
             link_type: None,
@@ -107,47 +190,68 @@ impl<'a> Source<'a> {
         hearing: &mut Hearing,
         writer: &mut W,
     ) -> Result<(), Stop<'a>> {
+        if !self.take_kept(until, hearing, writer)? {
+            return Ok(());
+        }
         for _ in 0..u64::MAX {
             let rest = &self.window.as_slice()[self.start..self.end];
             match self.reading.step(rest) {
                 Ok(step) => {
-                    if let Some(packet) = step.packet {
-                        let net = self.part.heard(packet.network);
-                        let at = packet.at.unwrap_or(0);
-                        let is_later = !matches!(until, Some(time) if at <= time);
-                        if net.is_some() && is_later {
-                            self.next = at;
-                            return Ok(());
-                        }
-                        self.packets = self.packets.saturating_add(1);
-                        match net {
-                            Some(net) => hearing.hear(
-                                writer,
-                                self.number,
-                                net,
-                                self.packets,
-                                &packet,
-                            )?,
-                            None if packet.network.is_some() => {}
-                            None => self.others = self.others.saturating_add(1),
-                        }
-                    }
                     self.start += step.used;
                     self.used = self.used.saturating_add(step.used as u64);
+                    let Some(packet) = step.packet else {
+                        continue;
+                    };
+                    match self.part.heard(packet.network) {
+                        Some(net) if is_later(packet.at, until) => {
+                            self.next = packet.at.unwrap_or(0);
+                            self.ahead.keep(net, &packet)?;
+                            return Ok(());
+                        }
+                        net => {
+                            self.counts
+                                .take(writer, hearing, self.number, net, &packet)?
+                        }
+                    }
                 }
                 Err(stop) => {
                     if stop != NoStep::More || !self.fill()? {
-                        let rest = &self.window.as_slice()[self.start..self.end];
-                        self.ended = Some(self.reading.end(self.used, rest, stop));
-                        if stop == NoStep::Malformed(Fault::LinkType) {
-                            self.link_type = link_type_in(rest);
-                        }
+                        self.finish(stop);
                         return Ok(());
                     }
                 }
             }
         }
         Ok(())
+    }
+
+    /// Judges the packet that was kept, if it isn't later than `until`. Returns whether none is kept any more.
+    fn take_kept<W: Write>(
+        &mut self,
+        until: Option<u128>,
+        hearing: &mut Hearing,
+        writer: &mut W,
+    ) -> Result<bool, Stop<'a>> {
+        let Some(kept) = self.ahead.kept else {
+            return Ok(true);
+        };
+        if is_later(kept.at, until) {
+            return Ok(false);
+        }
+        self.ahead.kept = None;
+        let (net, packet) = (Some(kept.net), self.ahead.packet(kept));
+        self.counts
+            .take(writer, hearing, self.number, net, &packet)?;
+        Ok(true)
+    }
+
+    /// Ends the reading, which stopped at the front of the window.
+    fn finish(&mut self, stop: NoStep) {
+        let rest = &self.window.as_slice()[self.start..self.end];
+        self.ended = Some(self.reading.end(self.used, rest, stop));
+        if stop == NoStep::Malformed(Fault::LinkType) {
+            self.link_type = link_type_in(rest);
+        }
     }
 
     /// Moves the unused bytes to the front of the window, and reads more. Returns false if there was no more.
@@ -176,10 +280,20 @@ impl<'a> Source<'a> {
         self.ending() == CaptureEnd::Whole
     }
 
+    /// Returns the number of packets that the recorder lost, as it told so far.
+    pub fn lost(&self) -> u64 {
+        self.reading.lost()
+    }
+
+    /// Returns true if the capture was read to its end, and its recorder lost no packet.
+    pub fn is_complete(&self) -> bool {
+        self.is_whole() && self.lost() == 0
+    }
+
     /// Returns the reason that the file is no capture of Ethernet frames. `None` if it has a packet, is whole, or
     /// hasn't ended.
     pub fn no_frames(&self) -> Option<NoFrames> {
-        if self.ended.is_none() || self.packets > 0 || self.is_whole() {
+        if self.ended.is_none() || self.counts.packets > 0 || self.is_whole() {
             return None;
         }
         Some(match (self.ending(), self.link_type) {
@@ -191,12 +305,12 @@ impl<'a> Source<'a> {
 
     /// Returns the number of packets that were read.
     pub fn packets(&self) -> u64 {
-        self.packets
+        self.counts.packets
     }
 
     /// Returns how many of the packets that were read came from other interfaces.
     pub fn others(&self) -> u64 {
-        self.others
+        self.counts.others
     }
 }
 
@@ -222,10 +336,13 @@ fn half_in(unit: &[u8], at: usize, is_high_first: bool) -> Option<u16> {
 
 impl fmt::Display for Source<'_> {
     fn fmt<W: fmt::Write>(&self, f: &mut fmt::Formatter<W>) -> fmt::Result {
-        let (packets, others) = (self.packets, self.others);
+        let (packets, others, lost) = (self.packets(), self.others(), self.lost());
         write!(f, "{packets} packets")?;
         if others > 0 {
             write!(f, ", {others} of other interfaces")?;
+        }
+        if lost > 0 {
+            write!(f, ", {lost} lost by the recorder")?;
         }
         match self.ending() {
             CaptureEnd::Whole => Ok(()),

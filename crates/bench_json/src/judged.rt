@@ -26,6 +26,8 @@ pub struct CaptureRow<'a> {
     pub file: &'a str,
     pub packets: u64,
     pub others: u64,
+    // packets that the recorder lost
+    pub lost: u64,
     pub whole: bool,
     // the line of the text
     pub told: String,
