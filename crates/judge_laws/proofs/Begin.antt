@@ -1,9 +1,10 @@
 -- A judge before the first packet of a recording, and the law: of what was sent legally it finds nothing but missing twins.
-use Rattle.judge_laws.proofs.Names.{A, Accepted, All, All-drop, All-filter, All-nil, All-weaker, AreAllowed, AreKnown, B, Bool, Entry, Finding, IsKnown, IsLegalOn, IsNumbered, IsPlan, IsSpaced, Link, LinkPlan, List, Nearness, Net, None, OnNet, Option, Options, Plan, Setting, Some, Stamp, Tag, TakeTurnsOn, TakesTurns, Times, ap, append_assoc, arith, bag_micros, cases_Bool, cases_lt, drop_at, entry, entry_number, eqb-true, false, filter, findings, found_at_end, found_from, found_given_up, found_left, found_missing, found_with_end, get_or-replicate, get_or_default, inl, inr, is_both, known_all, latest, length, length-replicate, line_on, link_at, link_in, link_plan_at, link_stream, map, map-append, nat_eq, nat_tests, new_line, new_link, new_sub, no_times, number_in, on_both, on_both_is, refl, replicate, side, stamp_of, stream_front, sub_at, sub_in, sub_stream, subst, suc, sym, tag_of, take, times_with, told, true, twin_same, with_append, zero, ℕ, [], ◌++◌, ◌+◌, ◌<◌, ◌∙◌, ◌∷◌, ◌≡◌, ◌≤◌, AreFit, IsMissing, IsRunOf, IsSent, NoFalseAlarm, packets_of}
-use Rattle.judge_laws.proofs.Copies.{AreCopied, IsCopy, IsStream, IsWait, all_copies, all_missing, copies_go_on}
+use Rattle.judge_laws.proofs.Names.{All-append, All-map, Contains, IsBegun, IsRecording, NoneByBeginning, Span, VlId, Wait, filter_passes, is_heard_before, is_left, is_lost, missing, missing_of, nat_lt, nearness_of, other_span, same_net, span_with, time_of, unwrap_or, ◌*◌, ◌-◌, A, Accepted, All, All-drop, All-filter, All-nil, All-weaker, AreAllowed, AreKnown, B, Bool, Entry, Finding, IsKnown, IsLegalOn, IsNumbered, IsPlan, IsSpaced, Link, LinkPlan, List, Nearness, Net, None, OnNet, Option, Options, Plan, Setting, Some, Stamp, Tag, TakeTurnsOn, TakesTurns, Times, ap, append_assoc, arith, bag_micros, cases_Bool, cases_lt, drop_at, entry, entry_number, eqb-true, false, filter, findings, found_at_end, found_from, found_given_up, found_left, found_missing, found_with_end, get_or-replicate, get_or_default, inl, inr, is_both, known_all, latest, length, length-replicate, line_on, link_at, link_in, link_plan_at, link_stream, map, map-append, nat_eq, nat_tests, new_line, new_link, new_sub, no_times, number_in, on_both, on_both_is, refl, replicate, side, stamp_of, stream_front, sub_at, sub_in, sub_stream, subst, suc, sym, tag_of, take, times_with, told, true, twin_same, with_append, zero, ℕ, [], ◌++◌, ◌+◌, ◌<◌, ◌∙◌, ◌∷◌, ◌≡◌, ◌≤◌, AreFit, IsMissing, IsRunOf, IsSent, NoFalseAlarm, packets_of}
+use Rattle.judge_laws.proofs.Copies.{AreCopied, IsCopy, IsStream, IsWait, all_copies, copies_go_on}
 use Rattle.judge_laws.proofs.Line.{AreDue, IsAhead, IsLine, of_profile, own_sub}
 use Rattle.judge_laws.proofs.Pieces.{awaits}
 use Rattle.judge_laws.proofs.Reading.{back_none}
+use Rattle.judge_laws.proofs.Wanted.{IsIn, in_contains}
 use Rattle.judge_laws.proofs.Recording.{AreRecorded, AreTwins, IsGoing, id_of, judge_of, packet_taken, recorded_after, recorded_next, rest_after, rest_of, setting_at}
 
 -- ---- a new line
@@ -208,46 +209,112 @@ module _ (plan : Plan) (accepted : Accepted) (a b : List Entry) (options : Optio
 
 -- ---- the law
 
-left_missing : (nearness : Nearness) (plans : List LinkPlan) (links : List Link) (found : List Finding) → All IsMissing found
-    → All IsMissing (found_left nearness plans links found)
+-- what holds of the frames that pass a test, as missing ones
+all_told : (P : Finding → Type 0) (vl : VlId) (p : Wait → Bool) (ws : List Wait) (found : List Finding) → All P found
+    → ((w : Wait) → p w ≡ true → P (missing vl w)) → All P (found ++ missing_of vl (filter p ws))
+all_told P vl p ws found all each = All-append P found _ all (All-map P (missing vl) (filter p ws)
+    (All-weaker (λ (w : Wait). p w ≡ true) (λ (w : Wait). P (missing vl w)) each (filter p ws) (filter_passes p ws)))
+
+-- a property of frames that are missing, before which the other network was recorded
+abbrev pub IsTold : (Finding → Type 0) → Nearness → Type 0
+IsTold P nearness = (vl : VlId) (w : Wait) → is_heard_before nearness w.tag ≡ true → P (missing vl w)
+
+left_told : (P : Finding → Type 0) (nearness : Nearness) (plans : List LinkPlan) (links : List Link) (found : List Finding) → IsTold P nearness
+    → All P found → All P (found_left nearness plans links found)
 unfolding found_at_end
-left_missing nearness [] links found all = all
-left_missing nearness (plan ∷ plans) [] found all = all
-left_missing nearness (plan ∷ plans) (link ∷ links) found all =
-    left_missing nearness plans links _ (all_missing plan.id _ found all)
+left_told P nearness [] links found is all = all
+left_told P nearness (plan ∷ plans) [] found is all = all
+left_told P nearness (plan ∷ plans) (link ∷ links) found is all =
+    left_told P nearness plans links _ is (all_told P plan.id (is_left nearness) link.twins.waiting found all
+    (λ w left. is plan.id w (grind (arith, cases_Bool))))
 
-all_given_up : (setting : Setting) (tag : Tag) (number : ℕ) (link : Link) (found : List Finding) → All IsMissing found
-    → All IsMissing (found_given_up setting tag number link found)
+all_given_up : (P : Finding → Type 0) (setting : Setting) (tag : Tag) (number : ℕ) (link : Link) (found : List Finding)
+    → IsTold P setting.nearness → All P found → All P (found_given_up setting tag number link found)
 unfolding found_missing
-all_given_up setting tag number link found all = grind (arith, cases_Bool, all_missing)
+all_given_up P setting tag number link found is all = elim (cases_Bool (is_both setting.plan.networks)) [
+  | inl both ↦ rw both (all_told P setting.plan.id (is_lost setting.nearness tag number) link.twins.waiting found all
+      (λ w lost. is setting.plan.id w (grind (arith, cases_Bool))))
+  | inr one ↦ rw one all
+]
 
-goes_on : (plan : Plan) (origin : Net → ℕ) (options : Options) (times : Times) (told : Bool) (links : List Link) (recording : List OnNet)
+-- ---- the times of both networks
+
+-- a packet of the other network than this one, at a time
+record IsAt (recording : List OnNet) (net : Net) (at : ℕ) : Type 0 where
+  packet : OnNet
+  member : Contains recording packet
+  apart : same_net packet.net net ≡ false
+  is : time_of packet.packet ≡ at
+
+-- the earliest time of each network is a packet's
+abbrev AreAttained : List OnNet → Times → Type 0
+AreAttained recording times = (net : Net) (span : Span) → other_span net times ≡ Some span → IsAt recording net span.earliest
+
+least_is : (recording : List OnNet) (net : Net) (at : ℕ) (before : Option Span) (span : Span) → IsAt recording net at
+    → ((s : Span) → before ≡ Some s → IsAt recording net s.earliest) → Some (span_with at before) ≡ Some span
+    → IsAt recording net span.earliest
+least_is recording net at None span own old is =
+    let same : span_with at None ≡ span = cc (is) in subst (λ (s : Span). IsAt recording net s.earliest) same own
+least_is recording net at (Some s) span own old is =
+    let same : span_with at (Some s) ≡ span = cc (is) in
+    subst (λ (s : Span). IsAt recording net s.earliest) same (elim (cases_Bool (nat_lt at s.earliest)) [ inl less ↦ rw less own | inr more ↦ rw more (old s refl) ])
+
+attained_with : (recording : List OnNet) (m : Net) (at : ℕ) (times : Times) → ((net : Net) → same_net m net ≡ false → IsAt recording net at)
+    → AreAttained recording times → AreAttained recording (times_with m at times)
+attained_with recording A at times own old A span is = old A span is
+attained_with recording B at times own old B span is = old B span is
+attained_with recording A at times own old B span is = least_is recording B at times.a span (own B refl) (old B) is
+attained_with recording B at times own old A span is = least_is recording A at times.b span (own A refl) (old A) is
+
+-- what the law says of each finding
+abbrev pub IsToldWell : Options → List OnNet → Finding → Type 0
+IsToldWell options recording finding = IsMissing finding × IsBegun options recording finding
+
+told_well : (recording : List OnNet) (options : Options) (times : Times) → AreAttained recording times
+    → IsTold (IsToldWell options recording) (nearness_of (of_profile options) times)
+told_well recording options times attained vl w before = (refl, by (other_span w.tag.net times) refl)
+  where
+    by : (span : Option Span) → other_span w.tag.net times ≡ span → IsBegun options recording (missing vl w)
+    by None none = absurd (cc (before, none))
+    by (Some span) some =
+        let at = attained w.tag.net span some in
+        let less : 1000 * options.skew < w.tag.at - span.earliest = grind (arith, nat_tests) in
+        record { packet = at.packet; member = at.member; net = at.apart; earlier = omega (arith, at.is, less) }
+
+goes_on : (plan : Plan) (origin : Net → ℕ) (options : Options) (times : Times) (told : Bool) (links : List Link) (whole recording : List OnNet)
     (after rest : Net → List Entry) (found : List Finding) → IsPlan plan → AreFit plan options origin → IsGoing plan origin options links rest
-    → AreTwins plan (AreCopied plan origin options) links rest → AreRecorded origin options after rest recording → All IsMissing found
-    → All IsMissing (found_from recording (judge_of plan options times told links) found)
+    → AreTwins plan (AreCopied plan origin options) links rest → AreRecorded origin options after rest recording
+    → ((p : OnNet) → IsIn p recording → Contains whole p) → AreAttained whole times → All (IsToldWell options whole) found
+    → All (IsToldWell options whole) (found_from recording (judge_of plan options times told links) found)
 unfolding found_with_end
-goes_on plan origin options times told links [] after rest found valid fit is twins zip all =
-    left_missing _ plan.links links found all
-goes_on plan origin options times told links (p ∷ ps) after rest found valid fit is twins zip all =
+goes_on plan origin options times told links whole [] after rest found valid fit is twins zip in_whole attained all =
+    left_told (IsToldWell options whole) _ plan.links links found (told_well whole options times attained) all
+goes_on plan origin options times told links whole (p ∷ ps) after rest found valid fit is twins zip in_whole attained all =
     let next = recorded_next origin options after rest p ps zip in
     let t = packet_taken plan origin options times told links p.net p.number p.packet next.first next.later rest valid is next.is
     next.recorded in
     let met = copies_go_on plan origin options times told links p.net p.number p.packet next.first next.later rest fit next.is t twins in
-    rw (t.after, t.found found met.0) (goes_on plan origin options (times_with p.net t.at times) told t.new ps after (rest_after p.net next.later rest) _ valid fit
-    t.going met.1 (recorded_after origin options next.later after rest p ps zip next.going)
-    (all_given_up (setting_at plan options p.net t.at times t.known.k) (tag_of p.net p.number t.at) (number_in next.first.frame)
-    (link_at links t.known.k) found all))
+    let now : AreAttained whole (times_with p.net t.at times) = attained_with whole p.net t.at times
+    (λ net apart. record { packet = p; member = in_whole p (inl refl); apart = apart; is = ap (λ (time : Option ℕ). unwrap_or time 0) t.timed }) attained in
+    rw (t.after, t.found found met.0) (goes_on plan origin options (times_with p.net t.at times) told t.new whole ps after
+    (rest_after p.net next.later rest) _ valid fit t.going met.1 (recorded_after origin options next.later after rest p ps zip next.going)
+    (λ q is_in. in_whole q (inr is_in)) now
+    (all_given_up (IsToldWell options whole) (setting_at plan options p.net t.at times t.known.k) (tag_of p.net p.number t.at)
+    (number_in next.first.frame) (link_at links t.known.k) found (told_well whole options (times_with p.net t.at times) now) all))
 
 pub own_options : (options : Options) → options.arinc ≡ false → options ≡ of_profile options
 own_options options profile = ap (λ (arinc : Bool). let o : Options = record options { arinc = arinc } in o) profile
 
-pub no_false_alarm_holds : NoFalseAlarm
-no_false_alarm_holds plan accepted a b options origin recording sent fit recorded =
-    subst (λ o. All IsMissing (findings plan o recording)) (sym (own_options options fit.profile)) (goes_on plan origin options no_times false
-    (links_at_start plan options) recording (λ net. (run net).after) rest [] sent.valid fit
+told_in : (plan : Plan) (accepted : Accepted) (a b : List Entry) (options : Options) (origin : Net → ℕ) (recording : List OnNet)
+    → IsSent plan accepted a b → AreFit plan options origin → IsRecording origin options a b recording
+    → All (IsToldWell options recording) (findings plan options recording)
+told_in plan accepted a b options origin recording sent fit recorded =
+    subst (λ o. All (IsToldWell options recording) (findings plan o recording)) (sym (own_options options fit.profile))
+    (goes_on plan origin options no_times false (links_at_start plan options) recording recording (λ net. (run net).after) rest [] sent.valid fit
     (going_begins plan accepted a b options origin (λ net. (run net).before) rest sent (λ net. (run net).whole) (λ net. (run net).first))
     (copies_begin plan accepted a b options origin (λ net. (run net).before) rest sent (λ net. (run net).whole) (λ net. (run net).first))
-    (λ net. record { recorded = (run net).recorded; whole = refl; each = (run net).each }) (All-nil IsMissing))
+    (λ net. record { recorded = (run net).recorded; whole = refl; each = (run net).each }) (λ p is. in_contains p recording is) none_attained
+    (All-nil (IsToldWell options recording)))
   where
     run : (net : Net) → IsRunOf (origin net) options (handed_to a b net) (packets_of net recording)
     run A = recorded.of_a
@@ -255,3 +322,16 @@ no_false_alarm_holds plan accepted a b options origin recording sent fit recorde
 
     rest : Net → List Entry
     rest net = (run net).recorded ++ (run net).after
+
+    none_attained : AreAttained recording no_times
+    none_attained A span is = absurd (cc (is))
+    none_attained B span is = absurd (cc (is))
+
+pub no_false_alarm_holds : NoFalseAlarm
+no_false_alarm_holds plan accepted a b options origin recording sent fit recorded =
+    All-weaker (IsToldWell options recording) IsMissing (λ finding is. is.0) _ (told_in plan accepted a b options origin recording sent fit recorded)
+
+pub none_by_beginning_holds : NoneByBeginning
+none_by_beginning_holds plan accepted a b options origin recording sent fit recorded =
+    All-weaker (IsToldWell options recording) (IsBegun options recording) (λ finding is. is.1) _
+    (told_in plan accepted a b options origin recording sent fit recorded)

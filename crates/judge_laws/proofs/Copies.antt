@@ -1,6 +1,6 @@
 -- A link's stream on two networks: frames with one number that are less than 255 gaps apart are copies of one frame, so
 -- no frame differs from one that waits for it.
-use Rattle.judge_laws.proofs.Names.{A, B, lag_of, All, All-append, All-contains, All-filter, All-head, All-map, All-push, All-tail, Bool, Entry, Finding, IsNumbered, IsSpaced, Link, List, Nearness, Net, None, Option, Options, Pairing, Plan, Recorded, Some, Stamp, Tag, Times, VlId, Wait, arith, bag_micros, cases_lt, drop-set-lt, entry, entry_number, find, first_other, get_or, get_or-map, get_or-take, interface_byte, is_both, is_twin, kept, left_waiting, length, length-map, length-set, length-take, link_at, link_plan_at, link_stream, map, missing, missing_of, nat_tests, number_in, numbered_at, pairing_with, refl, sequence_number, side, slice_range, stamp_of, stays, suc, sym, tag_of, take, take-set-le, true, twin_deviation, twin_number, twin_of, twin_other, zero, ℕ, [], ◌*◌, ◌++◌, ◌+◌, ◌-◌, ◌<◌, ◌∙◌, ◌∷◌, ◌≡◌, ◌≤◌, AreFit, IsMissing}
+use Rattle.judge_laws.proofs.Names.{A, B, lag_of, All, All-contains, All-filter, All-head, All-push, All-tail, Bool, Entry, IsNumbered, IsSpaced, Link, List, Nearness, Net, None, Option, Options, Pairing, Plan, Recorded, Some, Stamp, Tag, Times, Wait, arith, bag_micros, cases_lt, drop-set-lt, entry, entry_number, find, first_other, get_or, get_or-map, get_or-take, interface_byte, is_both, is_twin, kept, left_waiting, length, length-map, length-set, length-take, link_at, link_plan_at, link_stream, map, nat_tests, number_in, numbered_at, pairing_with, refl, sequence_number, side, slice_range, stamp_of, stays, suc, sym, tag_of, take, take-set-le, true, twin_deviation, twin_number, twin_of, twin_other, zero, ℕ, [], ◌*◌, ◌+◌, ◌-◌, ◌<◌, ◌∙◌, ◌∷◌, ◌≡◌, ◌≤◌, AreFit}
 use Rattle.judge_laws.proofs.Line.{IsDelayed}
 use Rattle.judge_laws.proofs.Reading.{all_removed, find_says}
 use Rattle.judge_laws.proofs.Recording.{AreTwins, IsPacketTaken, IsSame, id_of, left_at, nearness_at, rest_after, rest_holds, rest_of, stream_next, twins_go_on}
@@ -150,10 +150,6 @@ module _ (origin : Net → ℕ) (jitter skew : ℕ) (nearness : Nearness) (gap :
       × All (IsWait origin jitter stream) (pairing_with nearness tag number e.frame (left_waiting nearness tag number p)).waiting
   unfolding left_waiting
   wait_met p waits = met_by p.waiting (left_waiting nearness tag number p) _ refl waits refl
-
--- frames without a twin
-pub all_missing : (vl : VlId) (ws : List Wait) (found : List Finding) → All IsMissing found → All IsMissing (found ++ missing_of vl ws)
-all_missing vl ws found all = All-append IsMissing found _ all (All-map IsMissing (missing vl) ws (λ k spare inside. refl))
 
 -- ---- of all links
 

@@ -75,7 +75,7 @@ pub use Rattle.judge.specs.declared.finding.FragmentMisfit.{FragmentMisfit}
 pub use Rattle.judge.specs.declared.finding.FragmentMisfit.TheVariants.{Identification, Offset}
 pub use Rattle.judge.specs.declared.judge.Options.{Options}
 pub use Rattle.vl_shaper.specs.declared.shaper.Stamp.{Stamp}
-pub use Rattle.judge_laws.specs.NoFalseAlarm.{AreFit, IsMissing, IsRunOf, IsSent, NoFalseAlarm, lag_of, packets_of, IsRecord, IsRecording}
+pub use Rattle.judge_laws.specs.NoFalseAlarm.{AreFit, IsBegun, IsMissing, NoneByBeginning, IsRunOf, IsSent, NoFalseAlarm, lag_of, packets_of, IsRecord, IsRecording}
 pub use Rattle.judge_laws.specs.Frames.{IsRecordedAs}
 pub use Rattle.judge_laws.specs.NothingFound.{time_of, IsInOrder, NothingFound, IsWhole}
 pub use Rattle.judge_laws.specs.NothingMissed.{EndsWhole, IsExplained, IsOctets, IsReleased, IsSentTo, IsStrict, NothingMissed, entry_of, frames_of, sent_to}

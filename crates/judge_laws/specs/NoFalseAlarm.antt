@@ -1,5 +1,5 @@
 -- No false alarm: the findings of a judge in a recording of legal transmission.
-use Rattle.std.specs.Prelude.{ℕ, ◌≡◌, ◌+◌, ◌*◌, ◌≤◌, ◌<◌, true, false, List, [], ◌++◌, length, map, filter, All, Some}
+use Rattle.std.specs.Prelude.{ℕ, ◌≡◌, ◌+◌, ◌*◌, ◌≤◌, ◌<◌, true, false, List, [], ◌++◌, length, map, filter, All, Contains, Some}
 use Rattle.std.specs.List.{AllZip}
 use Rattle.afdx_plan.specs.Config.{Plan, IsPlan, link_plan_at}
 use Rattle.afdx_plan.specs.Plan.{bag_micros, is_both}
@@ -11,6 +11,7 @@ use Rattle.afdx_legal.specs.Legal.{Accepted, IsLegal}
 use Rattle.afdx_legal.specs.Streams.{TakeTurns}
 use Rattle.capture.specs.Recording.{Recorded}
 use Rattle.judge.specs.Judging.{OnNet, findings}
+use Rattle.judge.specs.Merging.{time_of}
 use Rattle.judge.specs.Twins.{apart, same_net}
 use Rattle.judge.specs.declared.finding.Finding.{Finding}
 use Rattle.judge.specs.declared.finding.FindingKind.TheVariants.{Missing}
@@ -71,3 +72,16 @@ abbrev pub NoFalseAlarm : Type 0
 NoFalseAlarm = (plan : Plan) (accepted : Accepted) (a b : List Entry) (options : Options) (origin : Net → ℕ)
     (recording : List OnNet) → IsSent plan accepted a b → AreFit plan options origin
     → IsRecording origin options a b recording → All IsMissing (findings plan options recording)
+
+-- the other network has a packet more than the skew before the frame of a finding
+pub record IsBegun (options : Options) (recording : List OnNet) (finding : Finding) : Type 0 where
+  pub packet : OnNet
+  pub member : Contains recording packet
+  pub net : same_net packet.net finding.net ≡ false
+  pub earlier : time_of packet.packet + 1000 * options.skew < finding.at
+
+-- No finding of such a recording comes from a recorder that began later than the other.
+abbrev pub NoneByBeginning : Type 0
+NoneByBeginning = (plan : Plan) (accepted : Accepted) (a b : List Entry) (options : Options) (origin : Net → ℕ)
+    (recording : List OnNet) → IsSent plan accepted a b → AreFit plan options origin
+    → IsRecording origin options a b recording → All (IsBegun options recording) (findings plan options recording)

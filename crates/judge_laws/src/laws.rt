@@ -1,5 +1,5 @@
 //! Laws of a judge, for an integrator. The functions are empty: each contract is a law.
-ghost use Rattle.judge_laws.specs.NoFalseAlarm.{NoFalseAlarm};
+ghost use Rattle.judge_laws.specs.NoFalseAlarm.{NoFalseAlarm, NoneByBeginning};
 ghost use Rattle.judge_laws.specs.NothingFound.{NothingFound};
 ghost use Rattle.judge_laws.specs.NothingMissed.{NothingMissed};
 ghost use Rattle.judge_laws.specs.Releases.{EarlyExactly};
@@ -7,7 +7,8 @@ ghost use Rattle.judge_laws.specs.TwinsWanted.{TwinsWanted};
 ghost use Rattle.judge_laws.specs.Worked.{FindsNothing, NeedsItsPremises, FindsNoneOfAll, FindsTwins, MissesNothing, NeedsTheTime};
 
 /// A judge raises no false alarm: in a recording of legal transmission for a valid plan, each finding is a frame
-/// without a twin, however the packets of the two networks interleave.
+/// without a twin, however the packets of the two networks interleave. The other network has a packet more than the
+/// skew before it: no finding comes from a recorder that began later.
 ///
 /// Premises:
 ///
@@ -20,6 +21,7 @@ ghost use Rattle.judge_laws.specs.Worked.{FindsNothing, NeedsItsPremises, FindsN
 ///   networks (`AreFit`): a sequence number comes again after 255 frames, and another frame of that number is no twin.
 pub fn no_false_alarm()
     ensures found { NoFalseAlarm }
+    ensures begun { NoneByBeginning }
     ensures worked { FindsNothing }
     ensures needed { NeedsItsPremises }
 {}
