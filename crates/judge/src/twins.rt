@@ -97,8 +97,8 @@ impl Nearness {
         }
     }
 
-    /// Returns true if a frame of this time comes too late to be a waiting frame's twin, and the wait is over: the other
-    /// network was recorded long enough after the waiting frame, or not before it.
+    /// Returns true if a frame of this time comes too late to be a waiting frame's twin, and the wait is over: the
+    /// other network was recorded long enough after the waiting frame, or not before it.
     fn is_late(&self, at: u128, tag: &Tag) -> bool
         ensures { result ≡ is_late self.now at tag.now }
     {

@@ -50,8 +50,8 @@ one_in_common = packet A 7 (one_frame A) ∷ seconds_at 1000007 ++ packet B 2000
 abbrev pub from : ℕ → Net → ℕ
 from origin net = origin
 
--- The recording meets the premises, and nothing is found. Nor is anything in one that began after the first frame, or in
--- one with a single frame on both networks.
+-- The recording meets the premises, and nothing is found. Nor is anything in one that began after the first frame, or
+-- in one with a single frame on both networks.
 pub record FindsNothing : Type 0 where
   pub sent : IsSent demo_plan two_accepted (two_entries A) (two_entries B)
   pub fit : AreFit demo_plan strict (from 7)
