@@ -36,8 +36,8 @@ pub enum Layout {
     Version,
     /// The total length: below 21, or not the frame's (byte 16).
     TotalLength,
-    /// The flags, more pieces after one that has no multiple of 8 bytes, or an offset at which the piece ends past 8,200
-    /// bytes (byte 20).
+    /// The flags, more pieces after one that has no multiple of 8 bytes, or an offset at which the piece ends past
+    /// 8,200 bytes (byte 20).
     Fragment,
     /// The time to live isn't 1, or the protocol isn't UDP (byte 22). Other makers' frames may have ICMP.
     Protocol,
