@@ -131,11 +131,8 @@ BREAKS: dict[str, Callable[[bytes], bytes]] = {
     "Recorded": lambda it: it + b"\1\2\3\4",
 }
 # What only this project's frames may not have.
-OWN = {
-    "Version": lambda it: put(it, 15, b"\x04"),
-    "Fragment": lambda it: summed(put(it, 20, bytes([it[20] | 0x40]))),
-    "Protocol": lambda it: put(it, 22, b"\x40"),
-}
+OWN = {"Version": lambda it: put(it, 15, b"\x04"), "Protocol": lambda it: put(it, 22, b"\x40")}
+OWN["Fragment"] = lambda it: summed(put(it, 20, bytes([it[20] | 0x40])))
 
 
 def broken(ground: Ground) -> Planted:

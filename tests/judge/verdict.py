@@ -42,8 +42,8 @@ class Repeated(Exception):
 
 
 def layout_fault(frame: bytes, arinc: bool) -> tuple[str, str] | None:
-    """The first rule of the layout that a frame breaks, and what is said. By ARINC 664 alone, three fields may be anything, and a whole datagram
-    may have the flag DF, and a frame may carry ICMP."""
+    """The first rule of the layout that a frame breaks, and what is said. By ARINC 664 alone, three fields may be anything, a
+    whole datagram may have the flag DF, and a frame may carry ICMP."""
     free = {8: frame[15:16], 9: frame[22:23]} if arinc else {8: b"\0", 9: b"\1"}
     if not 60 <= len(frame) <= 1514:
         return "Length", differ(len(frame), min(max(len(frame), 60), 1514))
