@@ -1,10 +1,14 @@
 -- What ports with periods hand over, the longest busy time of their sub-VL, and the times at which waits are greatest.
-use Rattle.plan_analysis.proofs.Names.{ℕ, zero, suc, ◌≡◌, ◌+◌, ◌-◌, ◌*◌, ◌/◌, ◌<◌, ◌≤◌, List, [], ◌∷◌, length, get_or, arith, refl, ap, ◌∙◌, sym, inl, inr, ◌⊎◌, max, below_more, ◌++◌, map, subst, get_or_append_left, get_or_default, get_or_push, All, div_ceil, cases_eq, cases_lt, All-cons, All-head, All-nil, All-tail, sum_by-cons, sum_by-le-sum_by, le-div, mul-le, div-le_self, div-mul-le_self, div-zero, Flow, Plan, IsPlan, IsPort, IsBusyUntil, MeetsByTraffic, WaitsByTraffic, Sender, Bound, IsFlow, arrived, arrived_before, wait_at, IsWithin, IsBusyTime, busy_limit, HasGoodPeriod, AreSendersOf, IsBoundOf, IsSubBound, PortPlan, link_of, round_of, sender_at, messages, greatest_message, places_at}
+use Rattle.plan_analysis.proofs.Names.{ℕ, zero, suc, ◌≡◌, ◌+◌, ◌-◌, ◌*◌, ◌/◌, ◌<◌, ◌≤◌, List, [], ◌∷◌, length, get_or, arith, refl, ap, ◌∙◌, sym, inl, inr, ◌⊎◌, max, below_more, ◌++◌, map, subst, get_or_append_left, get_or_default, get_or_push, All, div_ceil, cases_eq, cases_lt, All-cons, All-head, All-nil, All-tail, sum_by-cons, sum_by-le-sum_by, le-div, mul-le, div-le_self, div-mul-le_self, div-zero, Flow, Plan, IsPlan, IsPort, IsBusyUntil, MeetsByTraffic, MeetsWithJitter, WaitsByTraffic, Sender, Bound, IsFlow, arrived, arrived_before, wait_at, IsWithin, IsBusyTime, busy_limit, HasGoodPeriod, AreSendersOf, IsBoundOf, IsSubBound, PortPlan, link_of, round_of, sender_at, messages, greatest_message, places_at, later_at, min, ◌^◌, add-mul}
 use native.Mathlib.Nat.{mul-suc}
 
--- the fragments of one flow
+-- the messages of one flow
+abbrev pub count : ℕ → Flow → ℕ
+count t f = 1 + (t + f.jitter) / f.period
+
+-- and their fragments
 abbrev pub term : ℕ → Flow → ℕ
-term t f = f.fragments * (1 + t / f.period)
+term t f = f.fragments * count t f
 
 div_mono : (s t p : ℕ) → s ≤ t → s / p ≤ t / p
 div_mono s t zero le = rw (div-zero s, div-zero t) (omega arith)
@@ -12,24 +16,57 @@ div_mono s t (suc p) le = le-div (s / suc p) t (suc p) (omega arith) (let h = di
 
 pub arrived_mono : (flows : List Flow) (s t : ℕ) → s ≤ t → arrived flows s ≤ arrived flows t
 arrived_mono flows s t le = sum_by-le-sum_by (term s) (term t) flows
-    (λ f. let more = div_mono s t f.period le in mul-le f.fragments (1 + s / f.period) f.fragments (1 + t / f.period) (omega arith) (omega arith))
+    (λ f. let more = div_mono (s + f.jitter) (t + f.jitter) f.period (omega arith) in
+    mul-le f.fragments (count s f) f.fragments (count t f) (omega arith) (omega arith))
 
 -- the most fragments of a flow in twice the longest busy time that is looked for
-pub term_most : (f : Flow) (t : ℕ) → IsFlow f → t ≤ 591396864000 → f.fragments * (1 + t / f.period) ≤ 202257727488342
-term_most f t own le =
-    let part = div-le_self t f.period in
-    mul-le f.fragments (1 + t / f.period) 342 591396864001 own.most (omega arith)
+pub term_most : (f : Flow) (own : ℕ) → IsFlow f → own ≤ 591396864002 → f.fragments * own ≤ 202257727488684
+term_most f own good le = mul-le f.fragments own 342 591396864002 good.most le
+
+-- A sum that is over the greatest number isn't twice the period, nor is that number.
+pub saturates : (t j p : ℕ) → t ≤ 591396864000 → j ≤ p → 1 ≤ p → p < 2 ^ 64 → min (t + j) (2 ^ 64 - 1) / p ≡ (t + j) / p
+saturates t j p short within step small = elim (cases_lt (t + j) (2 ^ 64)) [
+  | inl less ↦ ap (λ (n : ℕ). n / p) (omega arith)
+  | inr more ↦ (
+      let one = once (min (t + j) (2 ^ 64 - 1)) p step (omega arith) (omega arith) in
+      let same = once (t + j) p step (omega arith) (omega arith) in
+      omega arith
+      )
+]
+  where
+    once : (n p : ℕ) → 1 ≤ p → p ≤ n → n < p + p → n / p ≡ 1
+    once n p step least most =
+        let some = le-div 1 n p step (omega arith) in
+        let part = div-mul-le_self n p in
+        elim (cases_lt (n / p) 2) [
+          | inl one ↦ omega arith
+          | inr more ↦ (let twice = mul-le 2 p (n / p) p (omega arith) (omega arith) in absurd (omega arith))
+        ]
+
+pub count_most : (t j p : ℕ) → t ≤ 591396864000 → j ≤ p → 1 ≤ p → (t + j) / p ≤ 591396864001
+count_most t j p short within step =
+    let one = one_more t j p step within in
+    let part = div-le_self t p in
+    omega arith
+  where
+    one_more : (t j p : ℕ) → 1 ≤ p → j ≤ p → (t + j) / p ≤ 1 + t / p
+    one_more t j p step within = grind arith
 
 ceil_is : (t p : ℕ) → 1 ≤ t → 1 ≤ p → div_ceil t p ≡ 1 + (t - 1) / p
 ceil_is t p some step = grind arith
+
+before_one : (t j p : ℕ) → 1 ≤ t → 1 ≤ p → div_ceil (t + j) p ≡ 1 + (t - 1 + j) / p
+before_one t j p some step =
+    let same : t + j - 1 ≡ t - 1 + j = omega arith in
+    ceil_is (t + j) p (omega arith) step ∙ ap (λ (n : ℕ). 1 + n / p) same
 
 -- what came before a time came by the microsecond before it
 pub before_is : (flows : List Flow) (t : ℕ) → All IsFlow flows → 1 ≤ t → arrived_before flows t ≡ arrived flows (t - 1)
 before_is [] t good some = refl
 before_is (f ∷ flows) t good some =
     let own = All-head IsFlow f flows good in
-    let one = ap (λ (n : ℕ). f.fragments * n) (ceil_is t f.period some own.period) in
-    let left = sum_by-cons (λ (g : Flow). g.fragments * div_ceil t g.period) f flows in
+    let one = ap (λ (n : ℕ). f.fragments * n) (before_one t f.jitter f.period some own.period) in
+    let left = sum_by-cons (λ (g : Flow). g.fragments * div_ceil (t + g.jitter) g.period) f flows in
     let right = sum_by-cons (term (t - 1)) f flows in
     let rest = before_is flows t (All-tail IsFlow f flows good) some in
     omega arith
@@ -39,8 +76,10 @@ next_div t p some step = grind arith
 
 twice_term : (t : ℕ) (f : Flow) → 1 ≤ t → 1 ≤ f.period → term t f ≤ 2 * term (t - 1) f
 twice_term t f some step =
-    let more = next_div t f.period some step in
-    let le = mul-le f.fragments (1 + t / f.period) f.fragments (2 * (1 + (t - 1) / f.period)) (omega arith) (omega arith) in
+    let same : t + f.jitter - 1 ≡ t - 1 + f.jitter = omega arith in
+    let part = ap (λ (n : ℕ). n / f.period) same in
+    let more = next_div (t + f.jitter) f.period (omega arith) step in
+    let le = mul-le f.fragments (count t f) f.fragments (2 * count (t - 1) f) (omega arith) (omega arith) in
     grind arith
 
 -- in a microsecond each flow hands over at most one message
@@ -59,7 +98,7 @@ some_arrived [] t good some = absurd (omega arith)
 some_arrived (f ∷ flows) t good some =
     let own = All-head IsFlow f flows good in
     let whole = sum_by-cons (term t) f flows in
-    let one = mul-le 1 1 f.fragments (1 + t / f.period) own.some (omega arith) in
+    let one = mul-le 1 1 f.fragments (count t f) own.some (omega arith) in
     omega arith
 
 -- Rounds that end no later than any busy time does, at whose end more is handed over or no less.
@@ -122,86 +161,102 @@ module _ (round : ℕ) (flows : List Flow) (turns : 1 ≤ round) (good : All IsF
 
 -- a flow for the place past the last one
 lone : Flow
-lone = record { fragments = 1; period = 1 }
+lone = record { fragments = 1; period = 1; jitter = 0 }
 
--- the latest multiple of a period by a time
-abbrev pub multiple : ℕ → Flow → ℕ
-multiple t f = t / f.period * f.period
+-- the number of the latest message by a time, if there is one
+later_is : (t j p : ℕ) → 1 ≤ p → j ≤ p → p ≤ t + j → p - j + ((t + j) / p - 1) * p ≡ (t + j) / p * p - j
+later_is t j p step within some =
+    let least = le-div 1 (t + j) p step (omega arith) in
+    let split = add-mul ((t + j) / p - 1) 1 p in
+    let whole = ap (λ (n : ℕ). n * p) (once ((t + j) / p) least) in
+    omega arith
+  where
+    once : (n : ℕ) → 1 ≤ n → n - 1 + 1 ≡ n
+    once n least = omega arith
 
--- a time is a multiple of some period, or none has one after the time before
-at_multiple : (t : ℕ) (flows : List Flow) (d : Flow)
-    → ((i : ℕ) × (i < length flows) × (t < multiple (suc t) (get_or flows i d))) ⊎ All (λ f. multiple (suc t) f ≤ t) flows
-at_multiple t [] d = inr (All-nil _)
-at_multiple t (f ∷ flows) d = elim (cases_lt t (multiple (suc t) f)) [
-  | inl here ↦ inl (0, omega arith, here)
-  | inr before ↦ elim (at_multiple t flows d) [
-    | inl later ↦ inl (suc later.0, omega (arith, later.1), later.2)
-    | inr none ↦ inr (All-cons (λ g. multiple (suc t) g ≤ t) f flows before none)
-  ]
-]
-
--- nothing comes between a time and the multiples by it
-same_arrived : (flows : List Flow) (s t : ℕ) → All IsFlow flows → All (λ (f : Flow). multiple t f ≤ s) flows → s ≤ t
-    → arrived flows t ≤ arrived flows s
-same_arrived [] s t good all le = omega arith
-same_arrived (f ∷ flows) s t good all le =
-    let P : Flow → Type 0 = λ g. multiple t g ≤ s in
+-- A message of some flow comes at a time after another one, or none comes.
+at_later : (t : ℕ) (flows : List Flow) (d : Flow) → All IsFlow flows
+    → ((i : ℕ) × (i < length flows) × (turn : ℕ) × (later_at (get_or flows i d) turn ≡ suc t)) ⊎ All (λ f. count (suc t) f ≤ count t f) flows
+at_later t [] d good = inr (All-nil _)
+at_later t (f ∷ flows) d good =
     let own = All-head IsFlow f flows good in
-    let turns = le-div (t / f.period) s f.period own.period (All-head P f flows all) in
-    let one = mul-le f.fragments (1 + t / f.period) f.fragments (1 + s / f.period) (omega arith) (omega arith) in
+    elim (cases_lt (count t f) (count (suc t) f)) [
+      | inl here ↦ (
+          let at = comes t f.jitter f.period own.period own.jitter (omega arith) in
+          inl (0, omega arith, (suc t + f.jitter) / f.period - 1, at)
+          )
+      | inr before ↦ elim (at_later t flows d (All-tail IsFlow f flows good)) [
+        | inl later ↦ inl (suc later.0, omega (arith, later.1), later.2, later.3)
+        | inr none ↦ inr (All-cons (λ g. count (suc t) g ≤ count t g) f flows before none)
+      ]
+    ]
+  where
+    comes : (t j p : ℕ) → 1 ≤ p → j ≤ p → (t + j) / p < (suc t + j) / p → p - j + ((suc t + j) / p - 1) * p ≡ suc t
+    comes t j p step within more =
+        let n : ℕ = (suc t + j) / p in
+        let below = div-mul-le_self (suc t + j) p in
+        let some : p ≤ suc t + j = (let one = mul-le 1 p n p (omega arith) (omega arith) in omega arith) in
+        let is = later_is (suc t) j p step within some in
+        elim (cases_lt (t + j) (n * p)) [
+          | inl at ↦ omega arith
+          | inr early ↦ (let reach = le-div n (t + j) p step early in absurd (omega arith))
+        ]
+
+-- nothing comes between two times
+same_arrived : (flows : List Flow) (s t : ℕ) → All (λ (f : Flow). count t f ≤ count s f) flows → arrived flows t ≤ arrived flows s
+same_arrived [] s t all = omega arith
+same_arrived (f ∷ flows) s t all =
+    let P : Flow → Type 0 = λ g. count t g ≤ count s g in
+    let one = mul-le f.fragments (count t f) f.fragments (count s f) (omega arith) (All-head P f flows all) in
     let left = sum_by-cons (term t) f flows in
     let right = sum_by-cons (term s) f flows in
-    let rest = same_arrived flows s t (All-tail IsFlow f flows good) (All-tail P f flows all) le in
+    let rest = same_arrived flows s t (All-tail P f flows all) in
     omega arith
 
--- Values at the multiples of the first `many` periods, up to an end, are no greater.
+-- Values at the later messages of the first `many` flows, up to an end, are no greater.
 abbrev pub AreCovered : (value_at : ℕ → ℕ) → List Flow → (busy greatest many : ℕ) → Type 0
 AreCovered value_at flows busy greatest many = (i : ℕ) (d : Flow) → i < many → (turn : ℕ)
-    → turn * (get_or flows i d).period ≤ busy → value_at (turn * (get_or flows i d).period) ≤ greatest
+    → later_at (get_or flows i d) turn ≤ busy → value_at (later_at (get_or flows i d) turn) ≤ greatest
 
 -- a value that only a message can make greater
 abbrev pub Falls : List Flow → (value_at : ℕ → ℕ) → Type 0
-Falls flows value_at = (t : ℕ) → All (λ (f : Flow). multiple (suc t) f ≤ t) flows → value_at (suc t) ≤ value_at t
+Falls flows value_at = (t : ℕ) → All (λ (f : Flow). count (suc t) f ≤ count t f) flows → value_at (suc t) ≤ value_at t
 
--- So it is no greater than at some multiple of a period.
-by_multiples : (flows : List Flow) (value_at : ℕ → ℕ) (busy greatest : ℕ) → 1 ≤ length flows → Falls flows value_at
-    → AreCovered value_at flows busy greatest (length flows) → (t : ℕ) → t ≤ busy → value_at t ≤ greatest
-by_multiples flows value_at busy greatest some falls covered zero le =
-    let start : 0 * (get_or flows 0 lone).period ≡ 0 = omega arith in rw start at (covered 0 lone (omega arith) 0 (omega arith))
-by_multiples flows value_at busy greatest some falls covered (suc t) le = elim (at_multiple t flows lone) [
-  | inl here ↦
-      let p : ℕ = (get_or flows here.0 lone).period in
-      let below = div-mul-le_self (suc t) p in
-      let is : suc t / p * p ≡ suc t = omega (arith, here.2) in
-      rw is at (covered here.0 lone here.1 (suc t / p) (omega arith))
+-- So it is no greater than at the start or at some later message.
+by_messages : (flows : List Flow) (value_at : ℕ → ℕ) (busy greatest : ℕ) → All IsFlow flows → Falls flows value_at
+    → value_at 0 ≤ greatest → AreCovered value_at flows busy greatest (length flows) → (t : ℕ) → t ≤ busy → value_at t ≤ greatest
+by_messages flows value_at busy greatest good falls start covered zero le = start
+by_messages flows value_at busy greatest good falls start covered (suc t) le = elim (at_later t flows lone good) [
+  | inl here ↦ (
+      let P : ℕ → Type 0 = λ n. n ≤ busy → value_at n ≤ greatest in
+      subst P here.3 (covered here.0 lone here.1 here.2) le
+      )
   | inr none ↦
-      let before = by_multiples flows value_at busy greatest some falls covered t (omega arith) in
+      let before = by_messages flows value_at busy greatest good falls start covered t (omega arith) in
       let less = falls t none in
       omega arith
 ]
 
-wait_falls : (round : ℕ) (flows : List Flow) → All IsFlow flows → Falls flows (wait_at round flows)
-wait_falls round flows good t none =
-    let same = same_arrived flows t (suc t) good none (omega arith) in
+wait_falls : (round : ℕ) (flows : List Flow) → Falls flows (wait_at round flows)
+wait_falls round flows t none =
+    let same = same_arrived flows t (suc t) none in
     let whole = mul-le round (arrived flows (suc t)) round (arrived flows t) (omega arith) same in
     omega arith
 
--- a wait is no longer than that at some multiple of a period
-pub wait_by_multiples : (round : ℕ) (flows : List Flow) (busy longest : ℕ) → All IsFlow flows → 1 ≤ length flows
+-- a wait is no longer than that at the start or at some later message
+pub wait_by_messages : (round : ℕ) (flows : List Flow) (busy longest : ℕ) → All IsFlow flows → wait_at round flows 0 ≤ longest
     → AreCovered (wait_at round flows) flows busy longest (length flows) → (t : ℕ) → t ≤ busy → wait_at round flows t ≤ longest
-wait_by_multiples round flows busy longest good some covered =
-    by_multiples flows (wait_at round flows) busy longest some (wait_falls round flows good) covered
+wait_by_messages round flows busy longest good start covered =
+    by_messages flows (wait_at round flows) busy longest good (wait_falls round flows) start covered
 
-same_messages : (flows : List Flow) (s t : ℕ) → All IsFlow flows → All (λ (f : Flow). multiple t f ≤ s) flows → s ≤ t
-    → messages flows t ≤ messages flows s
-same_messages [] s t good all le = omega arith
-same_messages (f ∷ flows) s t good all le =
-    let P : Flow → Type 0 = λ g. multiple t g ≤ s in
-    let own = All-head IsFlow f flows good in
-    let turns = le-div (t / f.period) s f.period own.period (All-head P f flows all) in
-    let left = sum_by-cons (λ (g : Flow). 1 + t / g.period) f flows in
-    let right = sum_by-cons (λ (g : Flow). 1 + s / g.period) f flows in
-    let rest = same_messages flows s t (All-tail IsFlow f flows good) (All-tail P f flows all) le in
+same_messages : (flows : List Flow) (s t : ℕ) → All (λ (f : Flow). count t f ≤ count s f) flows → messages flows t ≤ messages flows s
+same_messages [] s t all = omega arith
+same_messages (f ∷ flows) s t all =
+    let P : Flow → Type 0 = λ g. count t g ≤ count s g in
+    let one = All-head P f flows all in
+    let left = sum_by-cons (count t) f flows in
+    let right = sum_by-cons (count s) f flows in
+    let rest = same_messages flows s t (All-tail P f flows all) in
     omega arith
 
 ceil_mono : (a b p : ℕ) → 1 ≤ p → a ≤ b → div_ceil a p ≤ div_ceil b p
@@ -218,15 +273,15 @@ some_greatest (f ∷ flows) good some = let own = All-head IsFlow f flows good i
 
 places_fall : (round : ℕ) (flows : List Flow) → All IsFlow flows → 1 ≤ length flows → Falls flows (places_at round flows)
 places_fall round flows good some t none =
-    let same = same_messages flows t (suc t) good none (omega arith) in
+    let same = same_messages flows t (suc t) none in
     let more = ceil_mono ((t - 1) / round) ((suc t - 1) / round) (greatest_message flows) (some_greatest flows good some) (div_mono (t - 1) (suc t - 1) round (omega arith)) in
     omega arith
 
 -- and so are the places that are taken
-pub places_by_multiples : (round : ℕ) (flows : List Flow) (busy most : ℕ) → All IsFlow flows → 1 ≤ length flows
+pub places_by_messages : (round : ℕ) (flows : List Flow) (busy most : ℕ) → All IsFlow flows → 1 ≤ length flows → places_at round flows 0 ≤ most
     → AreCovered (places_at round flows) flows busy most (length flows) → (t : ℕ) → t ≤ busy → places_at round flows t ≤ most
-places_by_multiples round flows busy most good some covered =
-    by_multiples flows (places_at round flows) busy most some (places_fall round flows good some) covered
+places_by_messages round flows busy most good some start covered =
+    by_messages flows (places_at round flows) busy most good (places_fall round flows good some) start covered
 
 -- the greater of two values at times
 pub max_within : (value_at : ℕ → ℕ) (end a b c : ℕ) → c ≡ max a b → IsWithin value_at end a → IsWithin value_at end b
@@ -236,14 +291,14 @@ max_within value_at end a b c is own other = elim (cases_lt a b) [
   | inr more ↦ (own.0, own.1, grind (arith, own.2))
 ]
 
-pub turn_within : (turn busy p : ℕ) → turn < busy / p + 1 → turn * p ≤ busy
-turn_within turn busy p lt =
-    let part = div-mul-le_self busy p in
-    let le = mul-le turn p (busy / p) p (omega arith) (omega arith) in
+pub turn_within : (turn first busy p : ℕ) → first ≤ busy → turn < (busy - first) / p + 1 → first + turn * p ≤ busy
+turn_within turn first busy p early lt =
+    let part = div-mul-le_self (busy - first) p in
+    let le = mul-le turn p ((busy - first) / p) p (omega arith) (omega arith) in
     omega arith
 
-pub turn_below : (turn busy p : ℕ) → 1 ≤ p → turn * p ≤ busy → turn < busy / p + 1
-turn_below turn busy p step le = let h = le-div turn busy p step le in omega arith
+pub turn_below : (turn first busy p : ℕ) → 1 ≤ p → first + turn * p ≤ busy → turn < (busy - first) / p + 1
+turn_below turn first busy p step le = let h = le-div turn (busy - first) p step (omega arith) in omega arith
 
 pub each_push : {X : Type 0} (P : ℕ → X → Type 0) (xs : List X) (x d : X) (n : ℕ) → length xs ≡ n
     → ((i : ℕ) → i < n → P i (get_or xs i d)) → P n x → (i : ℕ) → i < n + 1 → P i (get_or (xs ++ x ∷ []) i d)
@@ -266,13 +321,13 @@ good_senders plan senders valid of k d lt =
 -- one flow more is covered
 pub cover_more : (value_at : ℕ → ℕ) (flows : List Flow) (busy old own new many : ℕ) (e : Flow) → many < length flows
     → AreCovered value_at flows busy old many
-    → ((turn : ℕ) → turn * (get_or flows many e).period ≤ busy → value_at (turn * (get_or flows many e).period) ≤ own)
+    → ((turn : ℕ) → later_at (get_or flows many e) turn ≤ busy → value_at (later_at (get_or flows many e) turn) ≤ own)
     → new ≡ max old own → AreCovered value_at flows busy new (many + 1)
 cover_more value_at flows busy old own new many e within covered each is = λ i d lt turn le. elim (cases_eq i many) [
   | inl last ↦
-      let P : ℕ → Type 0 = λ p. turn * p ≤ busy → value_at (turn * p) ≤ new in
-      let at : (get_or flows many e).period ≡ (get_or flows i d).period =
-      ap (λ (f : Flow). f.period) (get_or_default flows many e d within ∙ ap (λ (k : ℕ). get_or flows k d) (sym last)) in
+      let P : Flow → Type 0 = λ f. later_at f turn ≤ busy → value_at (later_at f turn) ≤ new in
+      let at : get_or flows many e ≡ get_or flows i d =
+      get_or_default flows many e d within ∙ ap (λ (k : ℕ). get_or flows k d) (sym last) in
       subst P at (λ h. let here = each turn h in omega arith) le
   | inr before ↦ (let here = covered i d (omega arith) turn le in omega arith)
 ]
@@ -347,4 +402,22 @@ meets_by_traffic = record {
   };
   released = omega arith;
   sooner = λ one. absurd (omega arith);
+}
+
+pub meets_with_jitter : MeetsWithJitter
+meets_with_jitter = record {
+  wait = record {
+    busy = 2000;
+    is_busy = record { some = omega arith; is = refl; least = λ t some is. grind arith };
+    met = (1, omega arith, refl);
+    most = λ t le. grind arith;
+  };
+  busy = record {
+    kept_before = λ t some le. grind arith;
+    kept = omega arith;
+    has = λ t some le. grind arith;
+    sends = λ t few. grind arith;
+  };
+  released = omega arith;
+  sooner = λ two. absurd (omega arith);
 }

@@ -1,5 +1,5 @@
 -- Names of other crates, and of this crate's definitions, for the proofs here.
-pub use Rattle.std.proofs.Common.{arith, ℕ, zero, suc, ◌≡◌, ◌+◌, ◌-◌, ◌*◌, ◌/◌, ◌^◌, ◌<◌, ◌≤◌, List, [], ◌∷◌, length, get_or, refl, ap, ◌∙◌, sym, inl, inr, ◌⊎◌, max, below_more, ◌++◌, map, Option, subst, take, true, None}
+pub use Rattle.std.proofs.Common.{arith, ℕ, zero, suc, ◌≡◌, ◌+◌, ◌-◌, ◌*◌, ◌/◌, ◌^◌, ◌<◌, ◌≤◌, List, [], ◌∷◌, length, get_or, refl, ap, ◌∙◌, sym, inl, inr, ◌⊎◌, max, min, below_more, ◌++◌, map, Option, subst, take, true, None}
 pub use Rattle.std.proofs.lemmas.List.{get_or_append_left, get_or_default, get_or_push, append_assoc, length-append}
 pub use Rattle.std.specs.Prelude.{All, Bool, count_by, flat_map, sum_by}
 pub use Rattle.std.specs.Int.{div_ceil}
@@ -11,11 +11,11 @@ pub use Rattle.std.proofs.Math.Nat.{add-mul, mul-add, div-le_self, div-mul-le_se
 pub use Rattle.plan_analysis.specs.declared.busy_time.Flow.{Flow}
 pub use Rattle.afdx_plan.specs.Config.{Plan, IsPlan}
 pub use Rattle.afdx_plan.specs.Plan.{IsPort, bag_micros}
-pub use Rattle.plan_analysis.specs.KeptPeriods.{IsBusyUntil, MeetsByTraffic, WaitsByTraffic}
+pub use Rattle.plan_analysis.specs.KeptPeriods.{IsBusyUntil, MeetsByTraffic, MeetsWithJitter, WaitsByTraffic}
 pub use Rattle.plan_analysis.specs.declared.traffic.Sender.{Sender}
 pub use Rattle.plan_analysis.specs.declared.traffic.Bound.{Bound}
 pub use Rattle.plan_analysis.specs.declared.traffic.Bound.TheVariants.{NoPeriod}
-pub use Rattle.plan_analysis.specs.Traffic.{IsFlow, IsWaitByTraffic, arrived, arrived_before, wait_at, IsWithin, IsBusyTime, busy_limit, HasGoodPeriod, AreSendersOf, IsBoundOf, IsSubBound, round_of, sender_at, have_periods, flows_of, messages, greatest_message, places_at, IsOverloaded, link_share, whole_share}
+pub use Rattle.plan_analysis.specs.Traffic.{IsFlow, IsWaitByTraffic, arrived, arrived_before, wait_at, IsWithin, IsBusyTime, busy_limit, HasGoodPeriod, AreSendersOf, IsBoundOf, IsSubBound, round_of, sender_at, have_periods, flows_of, messages, greatest_message, places_at, later_at, IsOverloaded, link_share, whole_share}
 pub use Rattle.std.specs.List.{range_with_len}
 pub use Rattle.std.proofs.lemmas.List.FromFn.{map-range_with_len_more}
 pub use Rattle.afdx_plan.specs.declared.link_plan.LinkPlan.{LinkPlan}

@@ -5,11 +5,12 @@ ceil_whole : (t p : ℕ) → 1 ≤ p → t ≤ div_ceil t p * p
 ceil_whole t p step = grind arith
 
 -- the share of one port at a time is at most what it has handed over
-one_share : (round whole t c p : ℕ) → 1 ≤ p → c * round * whole / p * t ≤ whole * (round * (c * div_ceil t p))
-one_share round whole t c p step =
+one_share : (round whole t c p j : ℕ) → 1 ≤ p → c * round * whole / p * t ≤ whole * (round * (c * div_ceil (t + j) p))
+one_share round whole t c p j step =
     let s : ℕ = c * round * whole / p in
-    let n : ℕ = div_ceil t p in
-    let far = mul-le s t s (n * p) (omega arith) (ceil_whole t p step) in
+    let n : ℕ = div_ceil (t + j) p in
+    let reach = ceil_whole (t + j) p step in
+    let far = mul-le s t s (n * p) (omega arith) (omega arith) in
     let part = mul-le (s * p) n (c * round * whole) n (div-mul-le_self (c * round * whole) p) (omega arith) in
     grind arith
 
@@ -25,10 +26,10 @@ all_shares round whole t [] good = omega arith
 all_shares round whole t (f ∷ flows) good =
     let own = All-head IsFlow f flows good in
     let first = sum_by-cons (λ (g : Flow). g.fragments * round * whole / g.period) f flows in
-    let came = sum_by-cons (λ (g : Flow). g.fragments * div_ceil t g.period) f flows in
-    let one = one_share round whole t f.fragments f.period own.period in
+    let came = sum_by-cons (λ (g : Flow). g.fragments * div_ceil (t + g.jitter) g.period) f flows in
+    let one = one_share round whole t f.fragments f.period f.jitter own.period in
     let rest = all_shares round whole t flows (All-tail IsFlow f flows good) in
-    both_shares _ (f.fragments * round * whole / f.period) _ whole round _ (f.fragments * div_ceil t f.period) _ t first came one rest
+    both_shares _ (f.fragments * round * whole / f.period) _ whole round _ (f.fragments * div_ceil (t + f.jitter) f.period) _ t first came one rest
 
 ahead : (share whole t came : ℕ) → 1 ≤ t → whole < share → 1 ≤ whole → share * t ≤ whole * came → t < came
 ahead share whole t came some more least le =

@@ -1,5 +1,5 @@
--- The wait of a message if each port of its sub-VL keeps its period.
-use Rattle.std.specs.Prelude.{ℕ, ◌+◌, ◌*◌, ◌/◌, ◌≤◌, ◌<◌, List, [], ◌∷◌}
+-- The wait of a message if each port of its sub-VL keeps its period with its jitter.
+use Rattle.std.specs.Prelude.{ℕ, ◌+◌, ◌*◌, ◌/◌, ◌≤◌, ◌<◌, List, [], ◌∷◌, min}
 use Rattle.plan_analysis.specs.declared.busy_time.Flow.{Flow}
 use Rattle.plan_analysis.specs.Traffic.{arrived, arrived_before, IsWaitByTraffic}
 
@@ -21,7 +21,7 @@ WaitsByTraffic = (round : ℕ) (flows : List Flow) (wait at : ℕ) (before by go
 
 -- one fragment each 3,000 microseconds
 abbrev pub lone_flow : List Flow
-lone_flow = record { fragments = 1; period = 3000 } ∷ []
+lone_flow = record { fragments = 1; period = 3000; jitter = 0 } ∷ []
 
 -- With a round of 1,000 a message at the start of a busy time is released after exactly its wait.
 pub record MeetsByTraffic : Type 0 where
@@ -29,3 +29,15 @@ pub record MeetsByTraffic : Type 0 where
   pub busy : IsBusyUntil 1000 lone_flow 0 (λ t. 0) (λ t. 1) (λ t. t / 1000)
   pub released : 1 ≤ (1000 * 1) / 1000
   pub sooner : 1 ≤ 999 / 1000 → ⊥
+
+-- the flow with a jitter of a microsecond less than its period
+abbrev pub late_flow : List Flow
+late_flow = record { fragments = 1; period = 3000; jitter = 2999 } ∷ []
+
+-- Of two messages at the start and a microsecond later, which the jitter allows, the second one is released after
+-- exactly its wait.
+pub record MeetsWithJitter : Type 0 where
+  pub wait : IsWaitByTraffic 1000 late_flow 1999
+  pub busy : IsBusyUntil 1000 late_flow 1 (λ t. min t 2) (λ t. min (t + 1) 2) (λ t. t / 1000)
+  pub released : 2 ≤ (1 + 1999) / 1000
+  pub sooner : 2 ≤ (1 + 1998) / 1000 → ⊥

@@ -1,4 +1,5 @@
--- The longest wait of a message, and the places that its queue needs, if each port of its sub-VL keeps a period.
+-- The longest wait of a message, and the places that its queue needs, if each port of its sub-VL keeps a period with
+-- its jitter.
 use Rattle.std.specs.Prelude.{ℕ, Bool, true, false, ◌≡◌, ◌+◌, ◌-◌, ◌*◌, ◌/◌, ◌^◌, ◌≤◌, ◌<◌, List, [], ◌∷◌, length, map, filter, sum_by, max, min, not, ◌||◌, All, Option, Some, None, IfSome, is_some, unwrap_or, get_or}
 use Rattle.std.specs.Int.{div_ceil}
 use Rattle.std.specs.List.{list_all}
@@ -11,14 +12,14 @@ use Rattle.plan_analysis.specs.declared.busy_time.Flow.{Flow}
 use Rattle.plan_analysis.specs.declared.traffic.Sender.{Sender}
 use Rattle.plan_analysis.specs.Wait.{is_on, link_of, port_pieces, used_sub_vls}
 
--- The most fragments that ports hand over in the first `t` microseconds, both ends included: each a greatest message at
--- the start and another each period.
+-- The most fragments that ports hand over in the first `t` microseconds, both ends included. Each port hands over a
+-- greatest message at the start, late by the jitter. The others are planned a period apart after it, and come on time.
 abbrev pub arrived : List Flow → ℕ → ℕ
-arrived flows t = sum_by (λ (f : Flow). f.fragments * (1 + t / f.period)) flows
+arrived flows t = sum_by (λ (f : Flow). f.fragments * (1 + (t + f.jitter) / f.period)) flows
 
--- the most fragments that ports hand over in the first `t` microseconds without their end
+-- the most fragments that ports hand over in the first `t` microseconds without their end, if `t` is at least 1
 abbrev pub arrived_before : List Flow → ℕ → ℕ
-arrived_before flows t = sum_by (λ (f : Flow). f.fragments * div_ceil t f.period) flows
+arrived_before flows t = sum_by (λ (f : Flow). f.fragments * div_ceil (t + f.jitter) f.period) flows
 
 -- The longest busy time of a sub-VL that sends a fragment each `round`: the first time at which all that was handed
 -- over before it can be sent.
@@ -45,12 +46,16 @@ pub record IsWaitByTraffic (round : ℕ) (flows : List Flow) (wait : ℕ) : Type
 
 -- the most messages that ports hand over in the first `t` microseconds, both ends included
 abbrev pub messages : List Flow → ℕ → ℕ
-messages flows t = sum_by (λ (f : Flow). 1 + t / f.period) flows
+messages flows t = sum_by (λ (f : Flow). 1 + (t + f.jitter) / f.period) flows
 
 -- the most fragments of a message
 abbrev pub greatest_message : List Flow → ℕ
 greatest_message [] = 0
 greatest_message (f ∷ flows) = max f.fragments (greatest_message flows)
+
+-- the time of a later message of a flow whose first one is late by the jitter at the start
+abbrev pub later_at : Flow → ℕ → ℕ
+later_at flow turn = flow.period - flow.jitter + turn * flow.period
 
 -- The most messages that are handed over and not begun when one is, `t` after the start of a busy time, itself among
 -- them. Each round that ended before then released a fragment, so at least this many messages are begun.
@@ -98,7 +103,11 @@ has_period sender = is_some sender.period
 
 -- the flow of a sender with a period
 abbrev pub flow_of : LinkPlan → Sender → Flow
-flow_of link sender = record { fragments = port_pieces link sender.port; period = unwrap_or sender.period 1 }
+flow_of link sender = record {
+  fragments = port_pieces link sender.port;
+  period = unwrap_or sender.period 1;
+  jitter = sender.jitter;
+}
 
 -- each sender on a sub-VL of a link has a period
 abbrev pub have_periods : LinkPlan → ℕ → List Sender → Bool
@@ -114,11 +123,12 @@ AreFlowsOf link sub senders None = have_periods link sub senders ≡ false
 AreFlowsOf link sub senders (Some flows) = (have_periods link sub senders ≡ true)
     × (flows ≡ flows_of link sub senders)
 
--- a flow with the fragments of a message and a period
+-- a flow with the fragments of a message, a period and a jitter within it
 pub record IsFlow (flow : Flow) : Type 0 where
   pub some : 1 ≤ flow.fragments
   pub most : flow.fragments ≤ 342
   pub period : 1 ≤ flow.period
+  pub jitter : flow.jitter ≤ flow.period
 
 -- no busy time of more than this many fragments is looked for
 abbrev pub busy_limit : ℕ
@@ -166,19 +176,23 @@ abbrev pub IsBoundOf : ℕ → Plan → List Sender → Sender → Bound → Typ
 IsBoundOf late plan senders sender bound = IsSubBound (round_of late plan (link_of plan sender.port))
     (link_of plan sender.port) sender.port.sub senders bound
 
--- a valid port, and a period of at least a microsecond, if there is one
+-- a period, if there is one, of at least a microsecond, and a jitter of at most the period
+abbrev pub IsGoodPeriod : Sender → Type 0
+IsGoodPeriod sender = IfSome sender.period (λ p. (1 ≤ p) × (sender.jitter ≤ p))
+
+-- a valid port with a good period
 pub record HasGoodPeriod (sender : Sender) : Type 0 where
   pub port : IsPort sender.port
-  pub period : IfSome sender.period (λ p. 1 ≤ p)
+  pub period : IsGoodPeriod sender
 
 -- a sender for each port of a plan, in order
 pub record AreSendersOf (plan : Plan) (senders : List Sender) : Type 0 where
   pub ports : map (λ (s : Sender). s.port) senders ≡ plan.ports
-  pub periods : All (λ (s : Sender). IfSome s.period (λ p. 1 ≤ p)) senders
+  pub periods : All IsGoodPeriod senders
 
 -- the sender at an index; past the end, one that no plan has
 abbrev pub sender_at : List Sender → ℕ → Sender
-sender_at senders i = get_or senders i (record { port = port_plan_at [] 0; period = None })
+sender_at senders i = get_or senders i (record { port = port_plan_at [] 0; period = None; jitter = 0 })
 
 -- the bounds of each sender's sub-VL, in order
 pub record AreBoundsOf (late : ℕ) (plan : Plan) (senders : List Sender) (bounds : List Bound) : Type 0 where

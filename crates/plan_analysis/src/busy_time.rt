@@ -1,13 +1,14 @@
 //! The longest busy time of a sub-VL whose ports keep periods: the greatest wait in it, and the most messages queued.
-ghost use Rattle.std.specs.Prelude.{◌≡◌, ◌+◌, ◌*◌, ◌^◌, ◌≤◌, ◌<◌, ℕ, All, IfSome, IfNone, IsTrue, length, nat_lt, max};
-ghost use Rattle.plan_analysis.specs.Traffic.{arrived as arrived_by, messages as messages_by, wait_at as wait_at_time, places_at as places_at_time, greatest_message as greatest_message_of, IsBusyTime, IsWaitByTraffic, IsNeed, IsOverloaded, link_share, whole_share, busy_limit, IsFlow, IsWithin};
+ghost use Rattle.std.specs.Prelude.{◌≡◌, ◌+◌, ◌*◌, ◌/◌, ◌^◌, ◌≤◌, ◌<◌, ℕ, All, IfSome, IfNone, IsTrue, length, nat_lt, max};
+ghost use Rattle.plan_analysis.specs.Traffic.{arrived as arrived_by, messages as messages_by, wait_at as wait_at_time, places_at as places_at_time, later_at, greatest_message as greatest_message_of, IsBusyTime, IsWaitByTraffic, IsNeed, IsOverloaded, link_share, whole_share, busy_limit, IsFlow, IsWithin};
 
-/// The messages that a port hands over: each of at most this many fragments, two of them at least the period apart, in
-/// microseconds.
+/// The messages that a port hands over, each of at most this many fragments. Their planned times are at least the
+/// period apart, and each message comes at most the jitter after its own, in microseconds.
 #[derive(Clone, Copy, Debug, PartialEq, Eq)]
 pub(crate) struct Flow {
     pub fragments: u64,
     pub period: u64,
+    pub jitter: u64,
 }
 
 /// The worst of a sub-VL whose ports keep their periods.
@@ -73,8 +74,8 @@ pub(crate) fn busy_rounds(round: u64, flows: &[Flow]) -> Option<u64>
     None
 }
 
-/// Returns the worst of the longest busy time, which takes these rounds. The fragments handed over change only at
-/// multiples of the periods.
+/// Returns the worst of the longest busy time, which takes these rounds. After its start the fragments handed over
+/// change only when a message comes that is on time.
 pub(crate) fn worst_of(round: u64, flows: &[Flow], rounds: u64) -> Worst
     requires some { (1 ≤ round) × (1 ≤ length flows.now) }
     requires round { round ≤ 4512000 }
@@ -90,7 +91,7 @@ pub(crate) fn worst_of(round: u64, flows: &[Flow], rounds: u64) -> Worst
     let most = greatest_message(flows);
     let mut worst = at_time(round, flows, most, 0);
     for flow in flows {
-        worst = worst.or(worst_at(round, flows, most, flow.period, busy));
+        worst = worst.or(worst_at(round, flows, most, *flow, busy));
     }
     let Worst { wait, need } = worst;
     Worst {
@@ -112,10 +113,11 @@ impl Worst {
     }
 }
 
-/// Returns the worst at the multiples of a period.
+/// Returns the worst at the start, and at the times at which a flow hands over its later messages: the first of them a
+/// period less the jitter after the start.
 #[tactic(auto, using(crate::proofs::Busy::arrived_mono))]
-fn worst_at(round: u64, flows: &[Flow], most: u64, period: u64, busy: u64) -> Worst
-    requires period { 1 ≤ period }
+fn worst_at(round: u64, flows: &[Flow], most: u64, flow: Flow, busy: u64) -> Worst
+    requires flow { IsFlow flow }
     requires some { (1 ≤ round) × (1 ≤ most) }
     requires round { round ≤ 4512000 }
     requires flows { All IsFlow flows.now }
@@ -125,14 +127,34 @@ fn worst_at(round: u64, flows: &[Flow], most: u64, period: u64, busy: u64) -> Wo
     requires arrived { arrived_by flows.now busy ≤ 2 * busy_limit }
     ensures wait { IsWithin (wait_at_time round flows.now) busy result.wait }
     ensures need { IsWithin (places_at_time round flows.now) busy result.need }
-    ensures waits { (turn : ℕ) → turn * period ≤ busy → wait_at_time round flows.now (turn * period) ≤ result.wait }
-    ensures needs { (turn : ℕ) → turn * period ≤ busy → places_at_time round flows.now (turn * period) ≤ result.need }
+    ensures start { wait_at_time round flows.now 0 ≤ result.wait }
+    ensures first { places_at_time round flows.now 0 ≤ result.need }
+    ensures waits { (turn : ℕ) → later_at flow turn ≤ busy
+        → wait_at_time round flows.now (later_at flow turn) ≤ result.wait }
+    ensures needs { (turn : ℕ) → later_at flow turn ≤ busy
+        → places_at_time round flows.now (later_at flow turn) ≤ result.need }
 {
     let mut worst = at_time(round, flows, most, 0);
-    for turn in 0..busy / period + 1 {
-        worst = worst.or(at_time(round, flows, most, turn * period));
+    for turn in 0..later_by(flow, busy) {
+        let time = flow.period - flow.jitter + turn * flow.period;
+        worst = worst.or(at_time(round, flows, most, time));
     }
     worst
+}
+
+/// Returns how many later messages a flow hands over by the end of a busy time.
+#[tactic(auto, using(crate::proofs::Busy::turn_within, crate::proofs::Busy::turn_below))]
+fn later_by(flow: Flow, busy: u64) -> u64
+    requires flow { IsFlow flow }
+    requires time { busy ≤ 295698432000 }
+    ensures within { (turn : ℕ) → turn < result → later_at flow turn ≤ busy }
+    ensures all { (turn : ℕ) → later_at flow turn ≤ busy → turn < result }
+    ensures most { result ≤ 295698432001 }
+{
+    match busy.checked_sub(flow.period - flow.jitter) {
+        Some(rest) => rest / flow.period + 1,
+        None => 0,
+    }
 }
 
 /// Returns the wait of a message that is handed over at this time of a busy time, and the number of messages then
@@ -167,7 +189,7 @@ fn handed_by(flows: &[Flow], time: u64) -> Handed
 {
     let (mut messages, mut fragments) = (0, 0);
     for flow in flows {
-        let own = 1 + time / flow.period;
+        let own = messages_of(flow, time);
         messages += own;
         fragments += flow.fragments * own;
     }
@@ -175,6 +197,18 @@ fn handed_by(flows: &[Flow], time: u64) -> Handed
         messages,
         fragments,
     }
+}
+
+/// Returns the most messages that a flow hands over in the first `time` microseconds, both ends included. A sum that is
+/// over the greatest number is less than twice the period, and so is that number.
+#[tactic(auto, using(crate::proofs::Busy::saturates, crate::proofs::Busy::count_most))]
+fn messages_of(flow: &Flow, time: u64) -> u64
+    requires flow { IsFlow flow.now }
+    requires time { time ≤ 591396864000 }
+    ensures value { result ≡ 1 + (time + flow.now.jitter) / flow.now.period }
+    ensures most { result ≤ 591396864002 }
+{
+    1 + time.saturating_add(flow.jitter) / flow.period
 }
 
 /// Returns the fragments of the greatest message.

@@ -10,11 +10,13 @@ use crate::fragments::{is_on, port_pieces, used_sub_vls};
 use afdx_plan::{Config, LinkPlan, PortPlan};
 use std::alloc::{AllocError, Global};
 
-/// A port, and the least time between two of its messages in microseconds, if it keeps one.
+/// A port, and the least time between the planned times of two of its messages, if it keeps one. Each message is
+/// accepted at most the jitter after its planned time. Both are in microseconds.
 #[derive(Clone, Copy, Debug, PartialEq, Eq)]
 pub struct Sender {
     pub port: PortPlan,
     pub period: Option<u64>,
+    pub jitter: u64,
 }
 
 /// The bound of a sub-VL by its traffic.
@@ -150,6 +152,7 @@ fn flows_on(
                 Some(period) => flows.push(Flow {
                     fragments: port_pieces(link, &sender.port),
                     period,
+                    jitter: sender.jitter,
                 })?,
                 None => return Ok(None),
             }

@@ -2,12 +2,12 @@
 //! suffice, and a verdict; as text and as CSV.
 ghost use Rattle.std.specs.Prelude.{◌≡◌, ◌≤◌, Option, Some, None, nat_lt, IfOk, IfSome, false};
 ghost use Rattle.plan_report.specs.AnalysisText.{longest_wait, is_missed as is_missed_by};
-ghost use Rattle.plan_analysis.specs.Traffic.{AreSendersOf};
+ghost use Rattle.plan_analysis.specs.Traffic.{AreSendersOf, IsGoodPeriod};
 
 use crate::html::Cell;
 use crate::queues::{Judged, Queue, queues_of};
 use crate::traffic::{Demand, Traffic};
-use afdx_plan::Config;
+use afdx_plan::{Config, PortPlan};
 use csv::{Error, Writer};
 use plan_analysis::{Analysis, Bound, JITTER_LIMIT, PortAnalysis, Sender};
 use std::alloc::{AllocError, Global};
@@ -60,6 +60,11 @@ impl<'a> Assessment<'a> {
     /// Returns whether a traffic text has a row.
     pub(crate) fn has_traffic(&self) -> bool {
         self.rows.iter().any(|row| row.demand.line.is_some())
+    }
+
+    /// Returns whether a port has a jitter.
+    pub(crate) fn has_jitter(&self) -> bool {
+        self.rows.iter().any(|row| row.demand.jitter > 0)
     }
 
     /// Returns the number of ports with a deadline, and the number of them that miss it.
@@ -179,7 +184,7 @@ impl Row<'_> {
     }
 }
 
-/// Returns the ports of a plan with the periods of their traffic.
+/// Returns the ports of a plan with the periods and the jitters of their traffic.
 pub fn senders_of(
     alloc: Global,
     config: &Config,
@@ -190,22 +195,31 @@ pub fn senders_of(
     let mut senders = Vec::with_capacity(alloc, config.ports().len())?;
     let mut place = 0usize;
     for port in config.ports() {
-        senders.push(Sender {
-            port: *port,
-            period: period_at(traffic, place),
-        })?;
+        senders.push(sender_of(port, traffic.demands.get(place)))?;
         place = place.saturating_add(1);
     }
     Ok(senders)
 }
 
-/// Returns the period of the port at a place.
-fn period_at(traffic: &Traffic, place: usize) -> Option<u64>
-    ensures { IfSome result (λ period. 1 ≤ period) }
+/// Returns a port with the period and the jitter of its demand, if that has a period.
+fn sender_of(port: &PortPlan, demand: Option<&Demand>) -> Sender
+    ensures port { result.port ≡ port.now }
+    ensures period { IsGoodPeriod result }
 {
-    match traffic.demands.get(place)?.period {
-        Some(0) | None => None,
-        Some(period) => Some(period),
+    let (period, jitter) = match demand {
+        Some(
+            Demand {
+                period: Some(period),
+                jitter,
+                ..
+            },
+        ) if *period > 0 => (Some(*period), (*jitter).min(*period)),
+        _ => (None, 0),
+    };
+    Sender {
+        port: *port,
+        period,
+        jitter,
     }
 }
 

@@ -17,13 +17,23 @@ const PREMISE: &str =
     " The wait by traffic holds if two messages of a port are at least its period apart. A message \
     that a full queue refuses has no wait.";
 
+/// The premise if a port has a jitter.
+const WITH_JITTER: &str =
+    " The wait by traffic holds if a port's messages are planned at least its period apart, and each one \
+    is accepted at most the port's jitter after its planned time. A message that a full queue refuses has no wait.";
+
 /// Writes the table of the ports: the columns of a traffic text only if there is one.
 pub(crate) fn write_waits<W: Write>(writer: &mut W, assessment: &Assessment<'_>) -> io::Result<()> {
     let scale = Scale::of(assessment);
     let decades = scale.decades;
     let (premise, class, name, columns) = if assessment.has_traffic() {
+        let premise = if assessment.has_jitter() {
+            WITH_JITTER
+        } else {
+            PREMISE
+        };
         (
-            PREMISE,
+            premise,
             "with",
             "<th class=\"name\">name",
             "<th>period<th>deadline<th>wait by queue<th>by traffic<th>slack",

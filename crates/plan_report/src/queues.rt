@@ -152,11 +152,18 @@ pub(crate) fn write_queue_table<W: Write>(
     writer: &mut W,
     assessment: &Assessment<'_>,
 ) -> io::Result<()> {
-    writer.write_all(
-        b"<h2>Queues</h2>\n<p>The places that a queue needs, so that it never refuses a message as full, if two \
-        messages of a port are at least its period apart, each port sends in one thread, and polls come. The ports \
+    let kept = if assessment.has_jitter() {
+        "the messages of a port are planned at least its period apart, each one is accepted at most the port's jitter \
+        after its planned time"
+    } else {
+        "two messages of a port are at least its period apart"
+    };
+    write!(
+        writer,
+        "<h2>Queues</h2>\n<p>The places that a queue needs, so that it never refuses a message as full, if \
+        {kept}, each port sends in one thread, and polls come. The ports \
         of a sub-VL that is overloaded send more than its link carries.</p>\n\
-        <table id=\"queues\">\n<thead><tr><th>link<th>sub-VL<th>capacity<th>need<th>suffices\n<tbody>\n",
+        <table id=\"queues\">\n<thead><tr><th>link<th>sub-VL<th>capacity<th>need<th>suffices\n<tbody>\n"
     )?;
     for queue in assessment.queues.iter() {
         let (link, sub, capacity) = (queue.sub.vl.0, queue.sub.sub, queue.sub.capacity);

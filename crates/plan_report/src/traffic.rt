@@ -1,4 +1,4 @@
-//! The traffic of a plan: names, periods and deadlines of its ports, read from a CSV text.
+//! The traffic of a plan: names, periods, jitters and deadlines of its ports, read from a CSV text.
 use afdx_plan::Config;
 use csv::{ByteRecord, ReaderBuilder};
 use interface_sheet::{Others, bare, column_of, is_empty, line_of, separator_of, whole};
@@ -7,7 +7,7 @@ use std::alloc::{AllocError, Global};
 use std::fmt;
 use thiserror::Error;
 
-/// The greatest period and the greatest deadline, in microseconds.
+/// The greatest period, the greatest jitter and the greatest deadline, in microseconds.
 pub const PERIOD_LIMIT: u64 = 1_000_000_000_000;
 
 /// The most bytes of a name.
@@ -17,7 +17,7 @@ const NAME_LIMIT: usize = 64;
 const FAULTS_LIMIT: usize = 1_000;
 
 /// The columns of a traffic text, by their names in its header.
-const COLUMNS: [&str; 4] = ["port", "name", "period_us", "deadline_us"];
+const COLUMNS: [&str; 5] = ["port", "name", "period_us", "jitter_us", "deadline_us"];
 
 /// The row of a traffic text for a port. Times are in microseconds.
 #[derive(Drop)]
@@ -26,6 +26,8 @@ pub struct Demand {
     pub line: Option<u64>,
     pub name: String,
     pub period: Option<u64>,
+    // the longest time from a message's planned time to its acceptance: 0 without a period, and at most the period
+    pub jitter: u64,
     pub deadline: Option<u64>,
 }
 
@@ -75,6 +77,10 @@ pub enum Wrong {
     SecondRow { id: u64, first: u64 },
     #[error("1 to {PERIOD_LIMIT} is wanted")]
     Time,
+    #[error("0 to {0} is wanted")]
+    Jitter(u64),
+    #[error("0 is wanted without a period")]
+    NoPeriod,
     #[error("at most 64 bytes of text without control characters are wanted")]
     Name,
 }
@@ -87,6 +93,7 @@ pub fn no_traffic(alloc: Global, config: &Config) -> Result<Traffic, AllocError>
             line: None,
             name: String::new(alloc),
             period: None,
+            jitter: 0,
             deadline: None,
         })?;
     }
@@ -105,7 +112,7 @@ pub fn read_traffic(alloc: Global, config: &Config, text: &[u8]) -> Result<Traff
         config,
         traffic: no_traffic(alloc, config)?,
         line: 1,
-        places: [None; 4],
+        places: [None; 5],
         width: None,
     };
     reading.read(alloc, text)?;
@@ -119,7 +126,7 @@ struct Reading<'a> {
     traffic: Traffic,
     line: u64,
     // the place of each column, and the number of fields in a row, once a header without a fault is read
-    places: [Option<usize>; 4],
+    places: [Option<usize>; 5],
     width: Option<usize>,
 }
 
@@ -189,12 +196,14 @@ impl Reading<'_> {
         if found != wanted {
             return self.add(None, Wrong::Fields { found, wanted });
         }
-        let [port, name, period, deadline] = self.places.map(|place| field(row, place));
+        let [port, name, period, jitter, deadline] = self.places.map(|place| field(row, place));
         let name = read_name(alloc, bare(name))?;
         if name.is_none() {
             self.add(Some("name"), Wrong::Name)?;
         }
+        let is_planned = !whole(period).is_empty();
         let period = self.time(period, "period_us")?;
+        let jitter = self.jitter(jitter, period, is_planned)?;
         let deadline = self.time(deadline, "deadline_us")?;
         let Some(id) = number(whole(port), 65_535) else {
             return self.add(Some("port"), Wrong::PortNumber);
@@ -212,9 +221,34 @@ impl Reading<'_> {
             line: Some(self.line),
             name: name.unwrap_or(String::new(alloc)),
             period,
+            jitter,
             deadline,
         };
         Ok(())
+    }
+
+    /// Reads a jitter: 0 if its field is empty, and at most the period. Without a period only 0 is allowed, and beside
+    /// a fault of the period any time.
+    fn jitter(
+        &mut self,
+        field: &[u8],
+        period: Option<u64>,
+        is_planned: bool,
+    ) -> Result<u64, AllocError> {
+        let field = whole(field);
+        if field.is_empty() {
+            return Ok(0);
+        }
+        let (most, wrong) = match period {
+            Some(period) => (period, Wrong::Jitter(period)),
+            None if is_planned => (PERIOD_LIMIT, Wrong::Jitter(PERIOD_LIMIT)),
+            None => (0, Wrong::NoPeriod),
+        };
+        let jitter = number(field, most);
+        if jitter.is_none() {
+            self.add(Some("jitter_us"), wrong)?;
+        }
+        Ok(jitter.unwrap_or(0))
     }
 
     /// Reads a time, which an empty field leaves out.

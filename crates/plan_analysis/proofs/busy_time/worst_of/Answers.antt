@@ -1,5 +1,5 @@
 use Rattle.plan_analysis.proofs.Names.{IsWaitByTraffic, ℕ, ◌*◌, arith, places_at, wait_at}
-use Rattle.plan_analysis.proofs.Busy.{arrived_within, cover_more, max_within, places_by_multiples, wait_by_multiples, wait_most}
+use Rattle.plan_analysis.proofs.Busy.{arrived_within, cover_more, max_within, places_by_messages, wait_by_messages, wait_most}
 use Rattle.plan_analysis.proofs.busy_time.worst_of.Goals as goal
 
 pub loop-flow-preserved : goal.loop-flow-preserved
@@ -13,6 +13,8 @@ loop-flow-preserved c =
           c.loop-flow.invariant.wait c.worst_at.ensures.wait;
       need = max_within places busy c.loop-flow.worst.need c.worst_at.result.need c.or-worst.result.need c.or-worst.ensures.need
           c.loop-flow.invariant.need c.worst_at.ensures.need;
+      start = omega (arith, c.or-worst.ensures.wait, c.loop-flow.invariant.start);
+      first = omega (arith, c.or-worst.ensures.need, c.loop-flow.invariant.first);
       waits = cover_more wait flows busy c.loop-flow.worst.wait c.worst_at.result.wait c.or-worst.result.wait c.loop-flow.flow-index _
           (omega (arith, c.loop-flow-test.true, c.loop-flow.auto.flow-index-end)) c.loop-flow.invariant.waits c.worst_at.ensures.waits
           c.or-worst.ensures.wait;
@@ -33,7 +35,7 @@ returns c =
       busy = busy;
       is_busy = c.requires.busy;
       met = c.loop-flow.invariant.wait;
-      most = wait_by_multiples c.args.round flows busy c.loop-flow.worst.wait c.requires.flows c.requires.some.1
+      most = wait_by_messages c.args.round flows busy c.loop-flow.worst.wait c.requires.flows c.loop-flow.invariant.start
           (λ i d lt turn le. c.loop-flow.invariant.waits i d (omega (arith, c.loop-flow-test.false, c.loop-flow.auto.flow-index-end)) turn le);
     } in
     record {
@@ -44,7 +46,7 @@ returns c =
           busy = busy;
           is_busy = c.requires.busy;
           met = c.loop-flow.invariant.need;
-          most = places_by_multiples c.args.round flows busy c.loop-flow.worst.need c.requires.flows c.requires.some.1
+          most = places_by_messages c.args.round flows busy c.loop-flow.worst.need c.requires.flows c.requires.some.1 c.loop-flow.invariant.first
               (λ i d lt turn le. c.loop-flow.invariant.needs i d (omega (arith, c.loop-flow-test.false, c.loop-flow.auto.flow-index-end)) turn le);
         };
         wait = c.loop-flow.worst.wait;
