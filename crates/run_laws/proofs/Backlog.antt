@@ -1,7 +1,7 @@
 -- How many messages a queue holds, if the ports of its sub-VL keep periods and it releases a fragment each round.
 use Rattle.run_laws.proofs.Names.{ℕ, suc, zero, ◌≡◌, ◌+◌, ◌-◌, ◌*◌, ◌/◌, ◌≤◌, List, [], ◌∷◌, ◌++◌, Bool, true, false, cond, nat_eq, nat_le, nat_tests, length, map, arith, refl, ap, sym, subst, ◌∙◌, inl, inr, cases_lt, map-append, length-map, filter, filter-append, All, All-cons, All-head, All-nil, All-tail, All-weaker, All-filter, all_back, all_front, all_of_map, filter_passes, sum_by, sum_by-append, sum_by-cons, sum_by-filter_both, not, mul-le, le-div, div-zero, div-mul-le_self, unwrap_or, div_ceil, Plan, IsPlan, link_plan_at, room_of, LinkPlan, PortPlan, A, Sent, IsAllowed, fragments_of, pieces_of, port_pieces, is_on, Sender, have_periods, senders_on, flows_of, flow_of, arrived, messages, greatest_message, Arrival, AreApart, is_before, messages_in, times_in, queued_of}
 use Rattle.run_laws.proofs.Pieces.{fragments_count}
-use Rattle.run_laws.proofs.KeptPeriods.{AreSized, IsAmong, IsKept, IsTimed, by_senders, filter_all, is_within, most_is, most_of, pieces_sized, still_kept, weight_of}
+use Rattle.run_laws.proofs.KeptPeriods.{AreSized, IsAmong, IsKept, IsTimed, by_senders, filter_all, is_within, most_is, most_of, of_sender, pieces_sized, still_kept, weight_of}
 
 -- The queue.
 
@@ -190,18 +190,18 @@ module _ (plan : Plan) (k s : ℕ) (valid : IsPlan plan) (senders : List Sender)
   link = link_plan_at plan.links k
 
   window : (size : PortPlan → ℕ) (weight : Arrival → ℕ) → AreSized plan k s size weight → (q u : ℕ)
-      → sum_by weight (filter (is_within q (suc u)) came) ≤ most_of size link s (λ p. 1 + u / p) senders
+      → sum_by weight (filter (is_within q (suc u)) came) ≤ most_of size link s (λ p j. 1 + (u + j) / p) senders
   window size weight sized q u =
       let within : Arrival → Bool = is_within q (suc u) in
-      let bound : ℕ → ℕ = λ p. 1 + u / p in
-      let timed : All (IsTimed plan k s valid size weight sized q u bound (λ p step. omega arith)) (filter within came) = λ i a lt.
+      let bound : (period jitter : ℕ) → ℕ = λ p j. 1 + (u + j) / p in
+      let timed : All (IsTimed plan k s valid size weight sized q u bound (λ p j step. omega arith)) (filter within came) = λ i a lt.
       let test = filter_passes within came i a lt in
       record {
         allowed = All-filter within (λ (d : Arrival). IsAllowed plan k s d.sent) came allowed i a lt;
         from = grind (arith, nat_tests);
         by = grind (arith, nat_tests);
       } in
-      by_senders plan k s valid size weight sized q u bound (λ p step. omega arith) senders (filter within came)
+      by_senders plan k s valid size weight sized q u bound (λ p j step. omega arith) senders (filter within came)
       (All-weaker (IsKept plan.ports came) (IsKept plan.ports (filter within came)) (still_kept plan.ports within came) senders kept)
       periods timed (All-filter within (λ (a : Arrival). IsAmong a.sent.port senders) came among)
 
@@ -213,8 +213,8 @@ module _ (plan : Plan) (k s : ℕ) (valid : IsPlan plan) (senders : List Sender)
       let part = sum_within one q u xs ys zs all in
       let same = ap (λ (list : List Arrival). sum_by one (filter (is_within q (suc u)) list)) is in
       let most = window (λ p. 1) one (λ a of. omega arith) q u in
-      let whole : messages (flows_of link s senders) u ≡ most_of (λ p. 1) link s (λ p. 1 + u / p) senders =
-      most_is (λ p. 1) link s (λ p. 1 + u / p) (flow_of link) _ (λ d. omega arith) senders in
+      let whole : messages (flows_of link s senders) u ≡ most_of (λ p. 1) link s (λ p j. 1 + (u + j) / p) senders =
+      most_is (λ p. 1) link s (λ p j. 1 + (u + j) / p) (flow_of link) _ (λ d. omega arith) senders in
       let count = length_is ys in
       omega arith
     where
@@ -233,8 +233,8 @@ module _ (plan : Plan) (k s : ℕ) (valid : IsPlan plan) (senders : List Sender)
       let part = sum_within weight q u xs ys zs all in
       let same = ap (λ (list : List Arrival). sum_by weight (filter (is_within q (suc u)) list)) is in
       let most = window (port_pieces link) weight (pieces_sized plan k s wide) q u in
-      let whole : arrived (flows_of link s senders) u ≡ most_of (port_pieces link) link s (λ p. 1 + u / p) senders =
-      most_is (port_pieces link) link s (λ p. 1 + u / p) (flow_of link) _ (λ d. refl) senders in
+      let whole : arrived (flows_of link s senders) u ≡ most_of (port_pieces link) link s (λ p j. 1 + (u + j) / p) senders =
+      most_is (port_pieces link) link s (λ p j. 1 + (u + j) / p) (flow_of link) _ (λ d. refl) senders in
       omega arith
 
 -- a message is no greater than the greatest
@@ -255,16 +255,16 @@ div_mono : (a b p : ℕ) → a ≤ b → a / p ≤ b / p
 div_mono a b zero le = rw (div-zero a, div-zero b) (omega arith)
 div_mono a b (suc p) le = le-div (a / suc p) b (suc p) (omega arith) (let h = div-mul-le_self a (suc p) in omega arith)
 
-most_more : (size : PortPlan → ℕ) (link : LinkPlan) (s : ℕ) (b c : ℕ → ℕ) → ((p : ℕ) → b p ≤ c p) → (senders : List Sender)
+most_more : (size : PortPlan → ℕ) (link : LinkPlan) (s : ℕ) (b c : (period jitter : ℕ) → ℕ) → ((p j : ℕ) → b p j ≤ c p j) → (senders : List Sender)
     → most_of size link s b senders ≤ most_of size link s c senders
 most_more size link s b c more [] = omega arith
 most_more size link s b c more (sender ∷ senders) = by_place (is_on link s sender.port) (most_more size link s b c more senders)
   where
     by_place : (on : Bool) → most_of size link s b senders ≤ most_of size link s c senders
-        → cond on (size sender.port * b (unwrap_or sender.period 1)) 0 + most_of size link s b senders
-        ≤ cond on (size sender.port * c (unwrap_or sender.period 1)) 0 + most_of size link s c senders
+        → cond on (size sender.port * of_sender b sender) 0 + most_of size link s b senders
+        ≤ cond on (size sender.port * of_sender c sender) 0 + most_of size link s c senders
     by_place true rest =
-        let own = mul-le (size sender.port) (b (unwrap_or sender.period 1)) (size sender.port) (c (unwrap_or sender.period 1)) (omega arith) (more (unwrap_or sender.period 1)) in
+        let own = mul-le (size sender.port) (of_sender b sender) (size sender.port) (of_sender c sender) (omega arith) (more (unwrap_or sender.period 1) sender.jitter) in
         omega arith
     by_place false rest = omega arith
 
@@ -272,9 +272,9 @@ most_more size link s b c more (sender ∷ senders) = by_place (is_on link s sen
 pub messages_mono : (link : LinkPlan) (s : ℕ) (senders : List Sender) (u v : ℕ) → u ≤ v
     → messages (flows_of link s senders) u ≤ messages (flows_of link s senders) v
 messages_mono link s senders u v le =
-    let left : messages (flows_of link s senders) u ≡ most_of (λ p. 1) link s (λ p. 1 + u / p) senders =
-    most_is (λ p. 1) link s (λ p. 1 + u / p) (flow_of link) _ (λ d. omega arith) senders in
-    let right : messages (flows_of link s senders) v ≡ most_of (λ p. 1) link s (λ p. 1 + v / p) senders =
-    most_is (λ p. 1) link s (λ p. 1 + v / p) (flow_of link) _ (λ d. omega arith) senders in
-    let more = most_more (λ p. 1) link s (λ p. 1 + u / p) (λ p. 1 + v / p) (λ p. (let h = div_mono u v p le in omega arith)) senders in
+    let left : messages (flows_of link s senders) u ≡ most_of (λ p. 1) link s (λ p j. 1 + (u + j) / p) senders =
+    most_is (λ p. 1) link s (λ p j. 1 + (u + j) / p) (flow_of link) _ (λ d. omega arith) senders in
+    let right : messages (flows_of link s senders) v ≡ most_of (λ p. 1) link s (λ p j. 1 + (v + j) / p) senders =
+    most_is (λ p. 1) link s (λ p j. 1 + (v + j) / p) (flow_of link) _ (λ d. omega arith) senders in
+    let more = most_more (λ p. 1) link s (λ p j. 1 + (u + j) / p) (λ p j. 1 + (v + j) / p) (λ p j. (let h = div_mono (u + j) (v + j) p (omega arith) in omega arith)) senders in
     omega arith

@@ -1,11 +1,11 @@
 -- The worked requests of the law of a queue that is never full, by computation.
-use Rattle.run_laws.proofs.Names.{AreTimely, load_at, ℕ, ◌≡◌, ◌+◌, ◌≤◌, List, [], ◌∷◌, refl, arith, Some, nil_isnt_cons, cutting, fragments_at, addresses, header_front, internet_header, link_header, udp_header, datagram, unnumbered, log, PortPlan, port_plan_at, IsWaitByTraffic, IsNeed, AreApart, KeepPeriods, AreSendersOf, byte_plan, bytes_accepted, no_line, byte_line, failed_line, short_port, short_sent, AsksAfter, asked_at, QueueName, Refuses, Full, AskCase, FillsItsQueue, NeedsPlaces, asking_port, full_port, each, other_each, ap}
+use Rattle.run_laws.proofs.Names.{AreTimely, byte_sender, late_senders, load_at, ℕ, ◌≡◌, ◌+◌, ◌≤◌, List, [], ◌∷◌, refl, arith, Some, nil_isnt_cons, cutting, fragments_at, addresses, header_front, internet_header, link_header, udp_header, datagram, unnumbered, log, PortPlan, port_plan_at, IsWaitByTraffic, IsNeed, AreApart, KeepPeriods, AreSendersOf, byte_plan, bytes_accepted, no_line, byte_line, failed_line, short_port, short_sent, AsksAfter, asked_at, QueueName, Refuses, Full, AskCase, FillsItsQueue, NeedsPlaces, asking_port, full_port, each, other_each, ap}
 use Rattle.afdx_frame.specs.Checksum.{checksum}
 use Rattle.run_laws.proofs.NeededRuns.{in_time}
-use Rattle.run_laws.proofs.TrafficRows.{byte_wait, needs_traffic}
+use Rattle.run_laws.proofs.TrafficRows.{byte_wait, keeps_one, near_fails, needs_traffic}
 
 -- with a period of 1,001
-slow_wait : IsWaitByTraffic 1000 (record { fragments = 1; period = 1001 } ∷ []) 1000
+slow_wait : IsWaitByTraffic 1000 (record { fragments = 1; period = 1001; jitter = 0 } ∷ []) 1000
 slow_wait = record {
   busy = 1000;
   is_busy = record { some = omega arith; is = refl; least = λ t some is. grind arith };
@@ -13,7 +13,7 @@ slow_wait = record {
   most = λ t le. grind arith;
 }
 
-slow_need : IsNeed 1000 (record { fragments = 1; period = 1001 } ∷ []) 1
+slow_need : IsNeed 1000 (record { fragments = 1; period = 1001; jitter = 0 } ∷ []) 1
 slow_need = record {
   backlog = 1;
   is_backlog = record {
@@ -28,7 +28,7 @@ slow_need = record {
 }
 
 -- with a period of a round
-byte_need : IsNeed 1000 (record { fragments = 1; period = 1000 } ∷ []) 2
+byte_need : IsNeed 1000 (record { fragments = 1; period = 1000; jitter = 0 } ∷ []) 2
 byte_need = record {
   backlog = 2;
   is_backlog = record {
@@ -42,7 +42,7 @@ byte_need = record {
   less = refl;
 }
 
-one_less : IsNeed 1000 (record { fragments = 1; period = 1000 } ∷ []) 1 → ⊥
+one_less : IsNeed 1000 (record { fragments = 1; period = 1000; jitter = 0 } ∷ []) 1 → ⊥
 one_less of =
     let busy = of.is_backlog.is_busy.some in
     let long : 1000 ≤ of.is_backlog.busy = (let is = of.is_backlog.is_busy.is in grind arith) in
@@ -82,22 +82,51 @@ other_is of =
     absurd (omega arith)
 
 keep_other : KeepPeriods (other_each 1001) 0 (asked_at 0 (short_sent 0) ∷ asked_at 0 (short_sent 0) ∷ [])
-keep_other = grind arith
+keep_other = keeps_one _ 0 1001 (asked_at 0 (short_sent 0) ∷ asked_at 0 (short_sent 0) ∷ []) refl (grind arith)
+    (record { dues = []; due = tt; apart = tt })
 
 keep_slow : KeepPeriods (each 1001) 0 (asked_at 0 (short_sent 0) ∷ asked_at 1001 (short_sent 0) ∷ [])
-keep_slow = grind arith
+keep_slow = keeps_one _ 0 1001 (asked_at 0 (short_sent 0) ∷ asked_at 1001 (short_sent 0) ∷ []) refl (grind arith)
+    (record { dues = 0 ∷ 1001 ∷ []; due = grind arith; apart = grind arith })
 
 keep_byte : KeepPeriods (each 1000) 0 (asked_at 0 (short_sent 0) ∷ asked_at 1000 (short_sent 0) ∷ [])
-keep_byte = grind arith
+keep_byte = keeps_one _ 0 1000 (asked_at 0 (short_sent 0) ∷ asked_at 1000 (short_sent 0) ∷ []) refl (grind arith)
+    (record { dues = 0 ∷ 1000 ∷ []; due = grind arith; apart = grind arith })
 
 keep_one : KeepPeriods (each 1001) 0 (asked_at 0 (short_sent 0) ∷ [])
-keep_one = grind arith
+keep_one = keeps_one _ 0 1001 (asked_at 0 (short_sent 0) ∷ []) refl (grind arith)
+    (record { dues = 0 ∷ []; due = grind arith; apart = grind arith })
 
 at_once : KeepPeriods (each 1001) 0 (asked_at 0 (short_sent 0) ∷ asked_at 0 (short_sent 0) ∷ []) → ⊥
-at_once keeps =
-    let apart : AreApart 1001 (0 ∷ 0 ∷ []) = keeps.apart 0 (record { port = short_port 0; period = Some 1001 }) (omega arith) in
-    let far = apart.0 0 0 (omega arith) in
-    absurd (omega arith)
+at_once keeps = near_fails 1001 0 0 0 (omega arith) (keeps.periods 0 byte_sender (omega arith))
+
+late_wait : IsWaitByTraffic 1000 (record { fragments = 1; period = 2000; jitter = 999 } ∷ []) 1000
+late_wait = record {
+  busy = 1000;
+  is_busy = record { some = omega arith; is = refl; least = λ t some is. grind arith };
+  met = (0, omega arith, refl);
+  most = λ t le. grind arith;
+}
+
+late_need : IsNeed 1000 (record { fragments = 1; period = 2000; jitter = 999 } ∷ []) 1
+late_need = record {
+  backlog = 1;
+  is_backlog = record {
+    busy = 1000;
+    is_busy = record { some = omega arith; is = refl; least = λ t some is. grind arith };
+    met = (0, omega arith, refl);
+    most = λ t le. grind arith;
+  };
+  wait = 1000;
+  is_wait = late_wait;
+  less = refl;
+}
+
+late_is : AreSendersOf byte_plan (late_senders 999)
+late_is = grind arith
+
+too_near : KeepPeriods (late_senders 999) 0 (asked_at 0 (short_sent 0) ∷ asked_at 1000 (short_sent 0) ∷ []) → ⊥
+too_near keeps = near_fails 2000 999 0 1000 (omega arith) (keeps.periods 0 byte_sender (omega arith))
 
 two_isnt : 2 ≤ 1 → ⊥
 two_isnt le = absurd (omega arith)
@@ -252,6 +281,21 @@ unkept_asks = record {
   timely = omega arith;
 }
 
+hasty_asks : AskCase 6 (late_senders 999) 1 1 0 0 (0 ∷ []) [] 1000 [] no_line no_line
+unfolding log
+hasty_asks = record {
+  senders_are = late_is;
+  need_is = (refl, late_need);
+  fits = omega arith;
+  asks = asks_one;
+  starts = tt;
+  quiet = refl;
+  keep = too_near;
+  finding = refl;
+  is_up = refl;
+  timely = omega arith;
+}
+
 twice_asks : AskCase 6 (each 1001) 1 0 0 0 [] (short_sent 0 ∷ []) 0 [] no_line no_line
 unfolding log
 twice_asks = record {
@@ -324,6 +368,7 @@ needs_places = record {
   early = record { premises = early_asks; load = one_at _ load_early; refused = refuses };
   owing = record { premises = owing_asks; load = one_at _ load_owed; refused = refuses };
   unkept = record { premises = unkept_asks; load = one_at _ load_one; refused = refuses };
+  hasty = record { premises = hasty_asks; load = one_at _ load_one; refused = refuses };
   twice = record { premises = twice_asks; load = one_at _ load_twice; refused = refuses };
   unfound = record { premises = unfound_asks; load = one_at _ load_one; refused = refuses };
   down = record { premises = down_asks; load = one_at _ load_down; refused = refuses };

@@ -1,5 +1,6 @@
--- How many fragments, and how many messages, the ports of a sub-VL can have accepted in a time if they keep their periods.
-use Rattle.run_laws.proofs.Names.{ℕ, ◌≡◌, ◌⊎◌, ◌+◌, ◌-◌, ◌*◌, ◌≤◌, List, [], ◌∷◌, Bool, true, false, cond, ◌&&◌, ◌||◌, nat_le, nat_lt, nat_tests, arith, refl, sym, ap, ◌∙◌, subst, get_or, Option, Some, None, inl, inr, map, length, length-map, mul-le, All, All-head, All-tail, All-weaker, eq-eqb, Contains, Plan, IsPlan, link_plan_at, LinkPlan, PortPlan, room_of, IsAllowed, pieces_of, port_pieces, ◌/◌, filter, not, unwrap_or, IfSome, is_some, sum_by, get_or_default, All-filter, All-map, filter_passes, sum_by-filter_both, sum_by-cons, sum_by-le, port_plan_at, PortId, is_on, Sender, senders_on, have_periods, has_period, all_of_map, Arrival, AreApart, times_in, is_from, is_before}
+-- How many fragments, and how many messages, the ports of a sub-VL can have accepted in a time if they keep their periods
+-- with their jitter.
+use Rattle.run_laws.proofs.Names.{ℕ, ◌≡◌, ◌⊎◌, ◌+◌, ◌-◌, ◌*◌, ◌≤◌, List, [], ◌∷◌, Bool, true, false, cond, ◌&&◌, ◌||◌, nat_le, nat_lt, nat_tests, arith, refl, sym, ap, ◌∙◌, subst, get_or, Option, Some, None, inl, inr, map, length, length-map, mul-le, All, All-cons, All-head, All-nil, All-tail, All-weaker, eq-eqb, Contains, Plan, IsPlan, link_plan_at, LinkPlan, PortPlan, room_of, IsAllowed, pieces_of, port_pieces, ◌/◌, filter, not, unwrap_or, IfSome, is_some, sum_by, get_or_default, All-filter, All-map, filter_passes, sum_by-filter_both, sum_by-cons, sum_by-le, port_plan_at, PortId, is_on, Sender, senders_on, have_periods, has_period, all_of_map, Arrival, AreApart, AreDue, KeepPeriod, times_in, is_from, is_before}
 use Rattle.run_laws.proofs.Pieces.{own_pieces}
 
 -- the fragments of a message on a link whose frames have this room
@@ -70,23 +71,54 @@ spaced p q u (first ∷ second ∷ times) step apart from by =
     let more = one_more u p step (omega arith) in
     omega arith
 
--- those that pass a test are as far apart
-still_apart : (p : ℕ) (test : Arrival → Bool) (arrivals : List Arrival) → AreApart p (times_in arrivals)
-    → AreApart p (times_in (filter test arrivals))
-still_apart p test [] apart = tt
-still_apart p test (a ∷ arrivals) apart = by_test (test a) (still_apart p test arrivals apart.1)
-  where
-    Far : ℕ → Type 0
-    Far n = a.at + p ≤ n
-
-    by_test : (b : Bool) → AreApart p (times_in (filter test arrivals))
-        → AreApart p (times_in (cond b (a ∷ filter test arrivals) (filter test arrivals)))
-    by_test true rest = (
-      All-map Far (λ (d : Arrival). d.at) (filter test arrivals)
-          (All-filter test (λ (d : Arrival). Far d.at) arrivals (all_of_map Far (λ (d : Arrival). d.at) arrivals apart.0)),
-      rest,
+-- the times at which messages between two times are due
+due_within : (j low high : ℕ) (times dues : List ℕ) → AreDue j times dues → All (λ (n : ℕ). low ≤ n) times → All (λ (n : ℕ). n ≤ high) times
+    → All (λ (n : ℕ). low ≤ n) dues × All (λ (n : ℕ). n ≤ high + j) dues × (length dues ≡ length times)
+due_within j low high [] [] due from by = (All-nil _, All-nil _, refl)
+due_within j low high [] (d ∷ dues) due from by = absurd due
+due_within j low high (t ∷ times) [] due from by = absurd due
+due_within j low high (t ∷ times) (d ∷ dues) due from by =
+    let rest = due_within j low high times dues due.2 (All-tail (λ (n : ℕ). low ≤ n) t times from) (All-tail (λ (n : ℕ). n ≤ high) t times by) in
+    let least = All-head (λ (n : ℕ). low ≤ n) t times from in
+    let most = All-head (λ (n : ℕ). n ≤ high) t times by in
+    let late = due.0 in
+    let soon = due.1 in (
+      All-cons (λ (n : ℕ). low ≤ n) d dues (omega arith) rest.0,
+      All-cons (λ (n : ℕ). n ≤ high + j) d dues (omega arith) rest.1,
+      omega (arith, rest.2),
     )
-    by_test false rest = rest
+
+-- messages that keep a period with a jitter: at most one each period, and one more within the jitter
+spaced_kept : (p j q u : ℕ) (times : List ℕ) → 1 ≤ p → KeepPeriod p j times → All (λ (n : ℕ). q ≤ n) times → All (λ (n : ℕ). n ≤ q + u) times
+    → length times ≤ 1 + (u + j) / p
+spaced_kept p j q u times step kept from by =
+    let within = due_within j q (q + u) times kept.dues kept.due from by in
+    let few = spaced p q (u + j) kept.dues step kept.apart within.0
+    (All-weaker (λ (n : ℕ). n ≤ q + u + j) (λ (n : ℕ). n ≤ q + (u + j)) (λ n le. omega arith) kept.dues within.1) in
+    let same = within.2 in
+    omega arith
+
+-- Messages that keep a period, and are due at some of these times.
+record IsThinned (p j : ℕ) (arrivals : List Arrival) (dues : List ℕ) : Type 0 where
+  pub keep : KeepPeriod p j (times_in arrivals)
+  pub among : (low : ℕ) → All (λ (n : ℕ). low ≤ n) dues → All (λ (n : ℕ). low ≤ n) keep.dues
+
+-- those that pass a test keep it too
+thinned : (p j : ℕ) (test : Arrival → Bool) (arrivals : List Arrival) (dues : List ℕ) → AreDue j (times_in arrivals) dues → AreApart p dues
+    → IsThinned p j (filter test arrivals) dues
+thinned p j test [] [] due apart = record { keep = record { dues = []; due = tt; apart = tt }; among = λ low all. all }
+thinned p j test [] (d ∷ dues) due apart = absurd due
+thinned p j test (a ∷ arrivals) [] due apart = absurd due
+thinned p j test (a ∷ arrivals) (d ∷ dues) due apart = by_test (test a) (thinned p j test arrivals dues due.2 apart.1)
+  where
+    by_test : (b : Bool) → IsThinned p j (filter test arrivals) dues
+        → IsThinned p j (cond b (a ∷ filter test arrivals) (filter test arrivals)) (d ∷ dues)
+    by_test true rest = record {
+      keep = record { dues = d ∷ rest.keep.dues; due = (due.0, due.1, rest.keep.due); apart = (rest.among (d + p) apart.0, rest.keep.apart) };
+      among = λ low all. All-cons (λ (n : ℕ). low ≤ n) d rest.keep.dues (All-head (λ (n : ℕ). low ≤ n) d dues all)
+          (rest.among low (All-tail (λ (n : ℕ). low ≤ n) d dues all));
+    }
+    by_test false rest = record { keep = rest.keep; among = λ low all. rest.among low (All-tail (λ (n : ℕ). low ≤ n) d dues all) }
 
 -- the port is that of one of these senders
 abbrev pub IsAmong : PortPlan → List Sender → Type 0
@@ -96,19 +128,20 @@ IsAmong port (sender ∷ senders) = (port ≡ sender.port) ⊎ IsAmong port send
 -- a sender of a plan that keeps its period
 pub record IsKept (ports : List PortPlan) (arrivals : List Arrival) (sender : Sender) : Type 0 where
   pub port : Contains ports sender.port
-  pub period : IfSome sender.period (λ p. 1 ≤ p)
-  pub apart : IfSome sender.period (λ p. AreApart p (times_in (filter (is_from sender.port) arrivals)))
+  pub period : IfSome sender.period (λ p. (1 ≤ p) × (sender.jitter ≤ p))
+  pub keeps : IfSome sender.period (λ p. KeepPeriod p sender.jitter (times_in (filter (is_from sender.port) arrivals)))
 
 -- also of the messages that pass a test
 pub still_kept : (ports : List PortPlan) (test : Arrival → Bool) (arrivals : List Arrival) (sender : Sender) → IsKept ports arrivals sender
     → IsKept ports (filter test arrivals) sender
-still_kept ports test arrivals sender kept = record { port = kept.port; period = kept.period; apart = by_period sender.period kept.apart }
+still_kept ports test arrivals sender kept = record { port = kept.port; period = kept.period; keeps = by_period sender.period kept.keeps }
   where
-    by_period : (o : Option ℕ) → IfSome o (λ p. AreApart p (times_in (filter (is_from sender.port) arrivals)))
-        → IfSome o (λ p. AreApart p (times_in (filter (is_from sender.port) (filter test arrivals))))
-    by_period None apart = apart
-    by_period (Some p) apart =
-        rw (filter_swap (is_from sender.port) test arrivals) (still_apart p test (filter (is_from sender.port) arrivals) apart)
+    by_period : (o : Option ℕ) → IfSome o (λ p. KeepPeriod p sender.jitter (times_in (filter (is_from sender.port) arrivals)))
+        → IfSome o (λ p. KeepPeriod p sender.jitter (times_in (filter (is_from sender.port) (filter test arrivals))))
+    by_period None keeps = keeps
+    by_period (Some p) keeps =
+        rw (filter_swap (is_from sender.port) test arrivals)
+        (thinned p sender.jitter test (filter (is_from sender.port) arrivals) keeps.dues keeps.due keeps.apart).keep
 
 -- ports of one id are one
 same_port : (plan : Plan) (p r : PortPlan) → IsPlan plan → Contains plan.ports p → Contains plan.ports r → p.id.0 ≡ r.id.0 → p ≡ r
@@ -121,22 +154,26 @@ same_port plan p r valid (i, below_i, is_p) (j, below_j, is_r) same =
     let one : i ≡ j = valid.ports_apart i j below_i below_j (ap of_port at_p ∙ (ap id_of same ∙ sym (ap of_port at_r))) in
     sym at_p ∙ (ap (port_plan_at plan.ports) one ∙ at_r)
 
+-- The most messages of a sender, by its period and its jitter.
+abbrev pub of_sender : (bound : (period jitter : ℕ) → ℕ) → Sender → ℕ
+of_sender bound sender = bound (unwrap_or sender.period 1) sender.jitter
+
 -- The most that senders on a sub-VL have accepted, by the size of a message of each port and the most messages of each
--- period.
-abbrev pub most_of : (size : PortPlan → ℕ) → LinkPlan → ℕ → (ℕ → ℕ) → List Sender → ℕ
+-- period and jitter.
+abbrev pub most_of : (size : PortPlan → ℕ) → LinkPlan → ℕ → (bound : (period jitter : ℕ) → ℕ) → List Sender → ℕ
 most_of size link s bound [] = 0
 most_of size link s bound (sender ∷ senders) =
-    cond (is_on link s sender.port) (size sender.port * bound (unwrap_or sender.period 1)) 0 + most_of size link s bound senders
+    cond (is_on link s sender.port) (size sender.port * of_sender bound sender) 0 + most_of size link s bound senders
 
-pub most_is : {F : Type 0} (size : PortPlan → ℕ) (link : LinkPlan) (s : ℕ) (bound : ℕ → ℕ) (flow : Sender → F) (count : F → ℕ)
-    → ((d : Sender) → count (flow d) ≡ size d.port * bound (unwrap_or d.period 1))
+pub most_is : {F : Type 0} (size : PortPlan → ℕ) (link : LinkPlan) (s : ℕ) (bound : (period jitter : ℕ) → ℕ) (flow : Sender → F) (count : F → ℕ)
+    → ((d : Sender) → count (flow d) ≡ size d.port * of_sender bound d)
     → (senders : List Sender) → sum_by count (map flow (senders_on link s senders)) ≡ most_of size link s bound senders
 most_is size link s bound flow count each [] = refl
 most_is size link s bound flow count each (sender ∷ senders) = by_place (is_on link s sender.port) (most_is size link s bound flow count each senders)
   where
     by_place : (b : Bool) → sum_by count (map flow (senders_on link s senders)) ≡ most_of size link s bound senders
         → sum_by count (map flow (cond b (sender ∷ senders_on link s senders) (senders_on link s senders)))
-        ≡ cond b (size sender.port * bound (unwrap_or sender.period 1)) 0 + most_of size link s bound senders
+        ≡ cond b (size sender.port * of_sender bound sender) 0 + most_of size link s bound senders
     by_place true rest = grind (arith, sum_by-cons, each sender)
     by_place false rest = omega arith
 
@@ -153,7 +190,7 @@ pub pieces_sized : (plan : Plan) (k s : ℕ) → 8 ≤ room_of (link_plan_at pla
 pieces_sized plan k s wide a allowed = own_pieces plan k s a.sent wide allowed
 
 module _ (plan : Plan) (k s : ℕ) (valid : IsPlan plan) (size : PortPlan → ℕ) (weight : Arrival → ℕ) (sized : AreSized plan k s size weight)
-    (q u : ℕ) (bound : ℕ → ℕ) (most : (p : ℕ) → 1 ≤ p → 1 + u / p ≤ bound p) where
+    (q u : ℕ) (bound : (period jitter : ℕ) → ℕ) (most : (p j : ℕ) → 1 ≤ p → 1 + (u + j) / p ≤ bound p j) where
   abbrev link : LinkPlan
   link = link_plan_at plan.links k
 
@@ -166,7 +203,7 @@ module _ (plan : Plan) (k s : ℕ) (valid : IsPlan plan) (size : PortPlan → �
   -- the fragments of one sender
   own_most : (sender : Sender) (arrivals : List Arrival) (b : Bool) (o : Option ℕ) → is_on link s sender.port ≡ b → sender.period ≡ o
       → IsKept plan.ports arrivals sender → (not b || is_some o) ≡ true → All IsTimed arrivals
-      → sum_by weight (filter (is_from sender.port) arrivals) ≤ cond b (size sender.port * bound (unwrap_or o 1)) 0
+      → sum_by weight (filter (is_from sender.port) arrivals) ≤ cond b (size sender.port * bound (unwrap_or o 1) sender.jitter) 0
   own_most sender arrivals b o on is kept has timed = by_cases b o on is has
     where
       mine : List Arrival
@@ -183,21 +220,22 @@ module _ (plan : Plan) (k s : ℕ) (valid : IsPlan plan) (size : PortPlan → �
       on_it a timed is = subst (λ (p : PortPlan). is_on link s p ≡ true) is (grind (arith, nat_tests, timed.allowed.queued.over, timed.allowed.queued.its))
 
       by_cases : (b : Bool) (o : Option ℕ) → is_on link s sender.port ≡ b → sender.period ≡ o → (not b || is_some o) ≡ true
-          → sum_by weight mine ≤ cond b (size sender.port * bound (unwrap_or o 1)) 0
+          → sum_by weight mine ≤ cond b (size sender.port * bound (unwrap_or o 1) sender.jitter) 0
       by_cases false o on is has =
           let none = has_none mine (λ i d lt. (let yes = on_it (get_or mine i d) (its i d lt) (same i d lt) in cc)) in
           rw none (omega arith)
       by_cases true None on is has = absurd (cc)
       by_cases true (Some p) on is has =
-          let period : 1 ≤ p = rw is at kept.period in
-          let apart : AreApart p (times_in mine) = rw is at kept.apart in
-          let count = spaced p q u (times_in mine) period apart (All-map (λ (n : ℕ). q ≤ n) (λ (a : Arrival). a.at) mine (λ i d lt. (its i d lt).from))
+          let good : (1 ≤ p) × (sender.jitter ≤ p) = rw is at kept.period in
+          let period = good.0 in
+          let keeps : KeepPeriod p sender.jitter (times_in mine) = rw is at kept.keeps in
+          let count = spaced_kept p sender.jitter q u (times_in mine) period keeps (All-map (λ (n : ℕ). q ≤ n) (λ (a : Arrival). a.at) mine (λ i d lt. (its i d lt).from))
           (All-map (λ (n : ℕ). n ≤ q + u) (λ (a : Arrival). a.at) mine (λ i d lt. (its i d lt).by)) in
           let many = length-map mine (λ (a : Arrival). a.at) in
           let all = sum_by-le weight (size sender.port) mine (λ i d lt. subst (λ (r : PortPlan). weight (get_or mine i d) ≤ size r)
           (same i d lt) (sized (get_or mine i d) (its i d lt).allowed)) in
-          let enough = most p period in
-          let le = mul-le (length mine) (size sender.port) (bound p) (size sender.port) (omega arith) (omega arith) in
+          let enough = most p sender.jitter period in
+          let le = mul-le (length mine) (size sender.port) (bound p sender.jitter) (size sender.port) (omega arith) (omega arith) in
           omega arith
 
   -- the messages of the ports of these senders

@@ -53,9 +53,9 @@ pub use Rattle.std.proofs.lemmas.List.Filters.{sum_by-filter_both}
 pub use Rattle.std.proofs.lemmas.List.Sums.{sum_by-cons, sum_by-le, sum_by-take-drop, sum_by_push, sum_by-append}
 pub use Rattle.afdx_plan.specs.declared.port_plan.PortId.{PortId}
 pub use Rattle.plan_analysis.specs.declared.traffic.Sender.{Sender}
-pub use Rattle.plan_analysis.specs.Traffic.{senders_on, have_periods, has_period, IsWaitByTraffic, IsBusyTime, arrived, arrived_before, flows_of, AreSendersOf, IsWaitOf, IsSubWait, IsBacklog, IsNeed, IsSubNeed, messages, greatest_message, places_at, wait_at as traffic_wait_at, flow_of, round_of}
+pub use Rattle.plan_analysis.specs.Traffic.{senders_on, have_periods, has_period, IsGoodPeriod, IsWaitByTraffic, IsBusyTime, arrived, arrived_before, flows_of, AreSendersOf, IsWaitOf, IsSubWait, IsBacklog, IsNeed, IsSubNeed, messages, greatest_message, places_at, wait_at as traffic_wait_at, flow_of, round_of}
 pub use Rattle.plan_analysis.proofs.Busy.{all_of_map, waits_by_traffic}
-pub use Rattle.run_laws.specs.TrafficInRun.{Arrival, AreApart, times_in, is_from, is_before, KeepPeriods, TrafficInRun, accepted_by, messages_in}
+pub use Rattle.run_laws.specs.TrafficInRun.{Arrival, AreApart, AreDue, KeepPeriod, times_in, is_from, is_before, KeepPeriods, TrafficInRun, AreFindingAll, accepted_by, messages_in}
 pub use Rattle.afdx_tx.proofs.OwnLengths.{own_link}
 pub use Rattle.subvl_queue.specs.Views.{after_take, ReceiverView, looked}
 pub use Rattle.vl_link.proofs.MessageEnds.{not_begun}
@@ -72,7 +72,7 @@ pub use Rattle.vl_shaper.proofs.Polled.{counted, released_in_time}
 pub use Rattle.std.proofs.Math.Nat.{div-le_self, div-mul-le_self, div-zero, lt-mul-div-succ, mul-div-le, mul_right_comm}
 pub use Rattle.plan_analysis.specs.KeptPeriods.{IsBusyUntil}
 pub use Rattle.afdx_plan.specs.declared.link_plan.Bag.{Bag}
-pub use Rattle.run_laws.specs.TrafficRow.{NeedsTraffic, TakesItsWait, byte_arrivals, byte_sender, byte_senders, other_sent, other_senders}
+pub use Rattle.run_laws.specs.TrafficRow.{accepted_at, sender_of, three_senders, third_arrival, NeedsTraffic, TakesItsWait, MeetsWithJitter, SecondReleased, late_senders, both_line, byte_arrivals, byte_sender, byte_senders, other_sent, other_senders}
 pub use Rattle.std.proofs.lemmas.List.Folds.{Any-from_list_any, list_any_at}
 pub use Rattle.afdx_laws.specs.WorkedDelivery.{back_frame}
 pub use Rattle.run_laws.specs.NeverFull.{AsksAfter, NeverFull, asked_at, queued_of}

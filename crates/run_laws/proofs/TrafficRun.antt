@@ -24,8 +24,8 @@ among_of port [] (k, lt, is) = absurd (omega arith)
 among_of port (sender ∷ senders) (zero, lt, is) = inl (sym is)
 among_of port (sender ∷ senders) (suc k, lt, is) = inr (among_of port senders (k, omega arith, is))
 
-ceil_most : (u p : ℕ) → 1 ≤ p → 1 + u / p ≤ div_ceil (suc u) p
-ceil_most u p step = grind arith
+ceil_most : (u j p : ℕ) → 1 ≤ p → 1 + (u + j) / p ≤ div_ceil (suc u + j) p
+ceil_most u j p step = grind arith
 
 pieces_are : (room : ℕ) (arrivals : List Arrival) → pieces_in room (messages_in arrivals) ≡ sum_by (weight_of room) arrivals
 pieces_are room [] = refl
@@ -78,9 +78,9 @@ module _ (plan : Plan) (k s : ℕ) (valid : IsPlan plan) (wide : 8 ≤ room_of (
     kept_before = kept_before;
     kept = λ q le. (
         let whole = all_owed at (q + suc (at - q)) by (omega arith) in
-        let few = window q (at - q) (λ p. 1 + (at - q) / p) (λ p step. omega arith) in
-        let same : arrived (flows_of link s senders) (at - q) ≡ most_of (port_pieces link) link s (λ p. 1 + (at - q) / p) senders =
-        most_is (port_pieces link) link s (λ p. 1 + (at - q) / p) (flow_of link) _ (λ d. refl) senders in
+        let few = window q (at - q) (λ p j. 1 + (at - q + j) / p) (λ p j step. omega arith) in
+        let same : arrived (flows_of link s senders) (at - q) ≡ most_of (port_pieces link) link s (λ p j. 1 + (at - q + j) / p) senders =
+        most_is (port_pieces link) link s (λ p j. 1 + (at - q + j) / p) (flow_of link) _ (λ d. refl) senders in
         omega arith
         );
   }
@@ -91,7 +91,7 @@ module _ (plan : Plan) (k s : ℕ) (valid : IsPlan plan) (wide : 8 ≤ room_of (
           (λ a is. among_of a.sent.port senders
           (subst (λ (ports : List PortPlan). Contains ports a.sent.port) (sym of.ports) is.queued.port)) arrivals allowed
 
-      window : (q u : ℕ) (bound : ℕ → ℕ) → ((p : ℕ) → 1 ≤ p → 1 + u / p ≤ bound p)
+      window : (q u : ℕ) (bound : (period jitter : ℕ) → ℕ) → ((p j : ℕ) → 1 ≤ p → 1 + (u + j) / p ≤ bound p j)
           → owed (q + suc u) - owed q ≤ most_of (port_pieces link) link s bound senders
       window q u bound most =
           let within : Arrival → Bool = is_within q (suc u) in
@@ -113,9 +113,9 @@ module _ (plan : Plan) (k s : ℕ) (valid : IsPlan plan) (wide : 8 ≤ room_of (
       kept_before : (q t : ℕ) → 1 ≤ t → owed (q + t) - owed q ≤ arrived_before (flows_of link s senders) t
       kept_before q zero some = absurd (omega arith)
       kept_before q (suc u) some =
-          let few = window q u (λ p. div_ceil (suc u) p) (λ p step. ceil_most u p step) in
-          let same : arrived_before (flows_of link s senders) (suc u) ≡ most_of (port_pieces link) link s (λ p. div_ceil (suc u) p) senders =
-          most_is (port_pieces link) link s (λ p. div_ceil (suc u) p) (flow_of link) _ (λ d. refl) senders in
+          let few = window q u (λ p j. div_ceil (suc u + j) p) (λ p j step. ceil_most u j p step) in
+          let same : arrived_before (flows_of link s senders) (suc u) ≡ most_of (port_pieces link) link s (λ p j. div_ceil (suc u + j) p) senders =
+          most_is (port_pieces link) link s (λ p j. div_ceil (suc u + j) p) (flow_of link) _ (λ d. refl) senders in
           omega arith
 
   -- nothing was accepted since, before the start
@@ -138,7 +138,7 @@ are_kept plan senders start arrivals of keeps i d lt =
     record {
       port = all_of_map (Contains plan.ports) (λ (s : Sender). s.port) senders ports i d lt;
       period = of.periods i d lt;
-      apart = keeps.apart i d lt;
+      keeps = keeps.periods i d lt;
     }
 
 -- the accepted messages that have a time

@@ -14,17 +14,18 @@ use Rattle.plan_analysis.specs.declared.traffic.Sender.{Sender}
 use Rattle.plan_analysis.specs.Traffic.{AreSendersOf, IsSubNeed, round_of}
 use Rattle.run_laws.specs.MessageInRun.{AreTimely, fragments_of, seen_of}
 use Rattle.run_laws.specs.TrafficInRun.{KeepPeriods, AreFindingAll, accepted_by, messages_in}
-use Rattle.run_laws.specs.TrafficRow.{Unless, byte_arrivals}
+use Rattle.run_laws.specs.TrafficRow.{Unless, byte_arrivals, late_senders}
 use Rattle.run_laws.specs.WorkedRun.{short_port, short_sent, byte_plan, bytes_accepted, byte_line, no_line, failed_line}
 use Rattle.run_laws.specs.NeverFull.{AsksAfter, asked_at, queued_of}
 
 -- the port, with this period
 abbrev pub each : ℕ → List Sender
-each period = record { port = short_port 0; period = Some period } ∷ []
+each period = record { port = short_port 0; period = Some period; jitter = 0 } ∷ []
 
 -- a port that the plan doesn't have
 abbrev pub other_each : ℕ → List Sender
-other_each period = record { port = record (short_port 0) { id = record { 0 = 11 } }; period = Some period } ∷ []
+other_each period =
+    record { port = record (short_port 0) { id = record { 0 = 11 } }; period = Some period; jitter = 0 } ∷ []
 
 -- the port before it asks
 abbrev pub asking_port : QueueName → PortView
@@ -94,6 +95,8 @@ pub record NeedsPlaces : Type 0 where
   pub owing : FullCase 5 (each 1001) 1 1 1 0 [] [] 0 [] no_line no_line
   -- two messages come at once
   pub unkept : FullCase 6 (each 1001) 1 1 0 0 (0 ∷ []) [] 0 [] no_line no_line
+  -- a message comes a microsecond nearer to the one before it than the jitter allows
+  pub hasty : FullCase 6 (late_senders 999) 1 1 0 0 (0 ∷ []) [] 1000 [] no_line no_line
   -- the port sends in two threads
   pub twice : FullCase 6 (each 1001) 1 0 0 0 [] (short_sent 0 ∷ []) 0 [] no_line no_line
   -- a poll of the emitter does not find the message

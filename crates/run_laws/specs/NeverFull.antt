@@ -39,9 +39,9 @@ pub record AsksAfter (plan : Plan) (accepted : Accepted) (k s : ℕ)
 
 -- A port isn't refused as full at `now` if its request finds no more messages and requests under way than there are,
 -- and its queue has the places that the traffic needs. At the start of the run its sub-VL had sent all that it had
--- accepted. Since then its ports keep their periods, where each request under way counts as a message of that time. The
--- polls that are due before then have come, and find the accepted messages. A network that carries the link is up after
--- them.
+-- accepted. Since then its ports keep their periods with their jitter, where each request under way counts as a
+-- message of that time. The polls that are due before then have come, and find the accepted messages. A network that
+-- carries the link is up after them.
 abbrev pub NeverFull : Type 0
 NeverFull = (plan : Plan) (senders : List Sender) (accepted : Accepted) (moments : List ℕ) (lines after : Lines)
     (k s late start now need : ℕ) (before : List Sent) (arrivals : List Arrival) (asked : List Sent) (own : Sent)

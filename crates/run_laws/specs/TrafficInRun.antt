@@ -1,4 +1,4 @@
--- The wait of an accepted message in a run of polls, if each port of its sub-VL keeps a period.
+-- The wait of an accepted message in a run of polls, if each port of its sub-VL keeps a period with its jitter.
 use Rattle.std.specs.Prelude.{ℕ, ◌≡◌, ◌⊎◌, ◌+◌, ◌≤◌, true, Bool, List, [], ◌∷◌, ◌++◌, length, map, filter, All, nat_eq, nat_lt, None, IfSome}
 use Rattle.afdx_plan.specs.Config.{Plan, IsPlan, link_plan_at}
 use Rattle.afdx_plan.specs.Plan.{bag_micros}
@@ -39,12 +39,26 @@ abbrev pub AreApart : ℕ → List ℕ → Type 0
 AreApart apart [] = Unit {0}
 AreApart apart (first ∷ times) = All (λ (t : ℕ). first + apart ≤ t) times × AreApart apart times
 
--- Messages were accepted in this order, none before the start. Two messages of a port with a period are at least the
--- period apart.
+-- Each time is at most the jitter before one of its own, in order, and not after it.
+abbrev pub AreDue : (jitter : ℕ) → (times dues : List ℕ) → Type 0
+AreDue jitter [] [] = Unit {0}
+AreDue jitter [] (due ∷ dues) = ⊥
+AreDue jitter (time ∷ times) [] = ⊥
+AreDue jitter (time ∷ times) (due ∷ dues) = (time ≤ due) × (due ≤ time + jitter) × AreDue jitter times dues
+
+-- The times of the messages of a port that keeps a period with a jitter. A message is due the jitter after its planned
+-- time: it is accepted from its planned time on, and by the time at which it is due. The planned times are at least the
+-- period apart, and so are the times at which messages are due.
+pub record KeepPeriod (period jitter : ℕ) (times : List ℕ) : Type 0 where
+  pub dues : List ℕ
+  pub due : AreDue jitter times dues
+  pub apart : AreApart period dues
+
+-- Messages were accepted in this order, none before the start. Each port with a period keeps it with its jitter.
 pub record KeepPeriods (senders : List Sender) (start : ℕ) (arrivals : List Arrival) : Type 0 where
   pub ordered : AreApart 0 (start ∷ times_in arrivals)
-  pub apart : All (λ (s : Sender). IfSome s.period (λ p. AreApart p (times_in (filter (is_from s.port) arrivals))))
-      senders
+  pub periods : All (λ (s : Sender).
+      IfSome s.period (λ p. KeepPeriod p s.jitter (times_in (filter (is_from s.port) arrivals)))) senders
 
 -- The number of fragments of the messages that a sub-VL accepted before a time: the messages before the start, and
 -- these.
@@ -60,9 +74,9 @@ AreFindingAll plan accepted k s count =
     ArePolls (λ now lines after. FindsIt plan k s (count now) now lines after ⊎ IsDrained now plan accepted lines after)
 
 -- A message is wholly released within the wait by traffic of its port, from its acceptance on. At the start of the run
--- its sub-VL had sent all that it had accepted. Since then its ports keep their periods, the polls come when its link
--- is due, find the accepted messages, and continue until the wait is over. A network that carries the link is up after
--- them.
+-- its sub-VL had sent all that it had accepted. Since then its ports keep their periods with their jitter, the polls
+-- come when its link is due, find the accepted messages, and continue until the wait is over. A network that carries
+-- the link is up after them.
 abbrev pub TrafficInRun : Type 0
 TrafficInRun = (plan : Plan) (senders : List Sender) (accepted : Accepted) (moments : List ℕ) (lines after : Lines)
     (k s late start wait : ℕ) (before : List Sent) (earlier : List Arrival) (own : Arrival) (later : List Sent)

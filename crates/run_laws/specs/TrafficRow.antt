@@ -12,19 +12,19 @@ use Rattle.plan_analysis.specs.Traffic.{AreSendersOf, IsWaitOf}
 use Rattle.afdx_laws.specs.Rows.{Holds}
 use Rattle.run_laws.specs.Runs.{ArePolls, EmitterPolls}
 use Rattle.run_laws.specs.MessageInRun.{AreTimely, AreReleasedBy, FindsIt, IsAccepted, fragments_of, seen_of}
-use Rattle.run_laws.specs.WorkedRun.{short_port, short_sent, byte_plan, bytes_accepted, no_line, byte_line, failed_line, lines_by, other_frame, three_plan, line_after, WaitsItsTurn}
+use Rattle.run_laws.specs.WorkedRun.{short_port, short_sent, short_frame, byte_plan, bytes_accepted, no_line, byte_line, failed_line, lines_by, other_frame, three_plan, line_after, WaitsItsTurn}
 use Rattle.run_laws.specs.TrafficInRun.{Arrival, KeepPeriods, AreFindingAll, accepted_by, messages_in}
 
 abbrev pub accepted_at : ℕ → Sent → Arrival
 accepted_at at sent = record { at = at; sent = sent }
 
 abbrev pub sender_of : ℕ → Sender
-sender_of period = record { port = short_port 1; period = Some period }
+sender_of period = record { port = short_port 1; period = Some period; jitter = 0 }
 
 -- the ports of the link of three sub-VLs; the port of sub-VL 1 keeps a period
 abbrev pub three_senders : List Sender
-three_senders = record { port = demo_port; period = None } ∷ sender_of 9000
-    ∷ record { port = short_port 2; period = None } ∷ []
+three_senders = record { port = demo_port; period = None; jitter = 0 } ∷ sender_of 9000
+    ∷ record { port = short_port 2; period = None; jitter = 0 } ∷ []
 
 -- the one message of the run, at its start
 abbrev pub third_arrival : List Arrival
@@ -45,14 +45,15 @@ pub record TakesItsWait : Type 0 where
 -- The link of one sub-VL, whose port sends messages of one byte, and keeps a period of 1,000 microseconds.
 
 abbrev pub byte_sender : Sender
-byte_sender = record { port = short_port 0; period = Some 1000 }
+byte_sender = record { port = short_port 0; period = Some 1000; jitter = 0 }
 
 abbrev pub byte_senders : List Sender
 byte_senders = byte_sender ∷ []
 
 -- a port that the plan doesn't have
 abbrev pub other_senders : List Sender
-other_senders = record { port = record (short_port 0) { id = record { 0 = 11 } }; period = Some 1000 } ∷ []
+other_senders =
+    record { port = record (short_port 0) { id = record { 0 = 11 } }; period = Some 1000; jitter = 0 } ∷ []
 
 -- another message, transmitted at 1,000
 abbrev pub other_sent : Lines
@@ -61,6 +62,37 @@ other_sent = lines_by ((1000, other_frame) ∷ [])
 -- messages that the sub-VL accepted at these times
 abbrev pub byte_arrivals : List ℕ → List Arrival
 byte_arrivals times = map (λ (at : ℕ). accepted_at at (short_sent 0)) times
+
+-- the port with a period of 2,000 and this jitter
+abbrev pub late_senders : ℕ → List Sender
+late_senders jitter = record { port = short_port 0; period = Some 2000; jitter = jitter } ∷ []
+
+-- two messages, transmitted at 1,000 and 2,000
+abbrev pub both_line : Lines
+both_line = lines_by ((1000, short_frame 0 0 0) ∷ (2000, short_frame 0 1 1) ∷ [])
+
+-- both are wholly released by the bound
+abbrev pub SecondReleased : ℕ → Type 0
+SecondReleased bound = AreReleasedBy byte_plan 0 0 (short_sent 0 ∷ short_sent 0 ∷ [])
+    (stream_at byte_plan 0 no_line) (stream_at byte_plan 0 both_line) bound
+
+-- Two messages are accepted at 0 and 1, the first one with the whole jitter of 1,999, and the second one with none. The
+-- wait by traffic is 1,999, and the second message is released at exactly 2,000.
+pub record MeetsWithJitter : Type 0 where
+  pub senders : AreSendersOf byte_plan (late_senders 1999)
+  pub wait : IsWaitOf 0 byte_plan (late_senders 1999) byte_sender 1999
+  pub accepted : IsAccepted byte_plan (bytes_accepted 2) 0 0 (messages_in (byte_arrivals (0 ∷ []))) (short_sent 0) []
+  pub starts : IsLater (latest None (stream_at byte_plan 0 no_line)) 0
+  pub quiet : seen_of 0 (stream_at byte_plan 0 no_line) ≡ fragments_of byte_plan 0 []
+  pub keep : KeepPeriods (late_senders 1999) 0 (byte_arrivals (0 ∷ 1 ∷ []))
+  pub finding : AreFindingAll byte_plan (bytes_accepted 2) 0 0 (accepted_by byte_plan 0 [] (byte_arrivals (0 ∷ 1 ∷ [])))
+      (1000 ∷ 2000 ∷ []) no_line both_line
+  pub begins : IsPrefixOf (seen_of 0 (stream_at byte_plan 0 both_line))
+      (fragments_of byte_plan 0 (bytes_accepted 2 0 0))
+  pub is_up : any_up (link_plan_at byte_plan.links 0).networks both_line ≡ true
+  pub timely : AreTimely 1000 0 2000 0 (1000 ∷ 2000 ∷ [])
+  pub released : SecondReleased 2000
+  pub sooner : SecondReleased 1999 → ⊥
 
 -- the number of the premise that fails isn't this one, or the premise fails
 abbrev pub Unless : (failing premise : ℕ) → Type 0 → Type 0
@@ -104,6 +136,8 @@ pub record NeedsTraffic : Type 0 where
   pub owing : ArrivalCase 4 byte_senders 1000 2 1 0 [] 0 1000 no_line (byte_line 1000)
   -- two messages are accepted at once
   pub unkept : ArrivalCase 5 byte_senders 1000 2 0 0 (0 ∷ []) 0 1000 no_line (byte_line 1000)
+  -- two messages are accepted a microsecond nearer than the jitter allows
+  pub hasty : ArrivalCase 5 (late_senders 1998) 1998 2 0 0 (0 ∷ []) 1 1000 no_line (byte_line 1000)
   -- two are accepted a period apart, the first before the start
   pub sooner : ArrivalCase 5 byte_senders 1000 2 0 1000 (0 ∷ []) 1000 2000 no_line (byte_line 2000)
   -- a poll of the emitter does not find the message

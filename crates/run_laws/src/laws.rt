@@ -4,7 +4,7 @@ ghost use Rattle.run_laws.specs.NeverFull.{NeverFull};
 ghost use Rattle.run_laws.specs.FullRow.{FillsItsQueue, NeedsPlaces};
 ghost use Rattle.run_laws.specs.Runs.{NextInRun, KeptReady};
 ghost use Rattle.run_laws.specs.TrafficInRun.{TrafficInRun};
-ghost use Rattle.run_laws.specs.TrafficRow.{TakesItsWait, NeedsTraffic};
+ghost use Rattle.run_laws.specs.TrafficRow.{MeetsWithJitter, NeedsTraffic, TakesItsWait};
 ghost use Rattle.run_laws.specs.WorkedRun.{ComesInRun, NeedsARun, MeetsTheWait, NeedsItsPremises, ComesInTurn, WaitsItsTurn};
 
 /// An emitter, or its drain, releases the next fragment of a message within the bound of its link: one BAG and one
@@ -64,13 +64,14 @@ pub fn message_in_run()
 {}
 
 /// An accepted message is wholly released within the wait by traffic of its port, if each port of its sub-VL keeps a
-/// period, whatever the other sub-VLs send. `plan_analysis::traffic_bounds` computes that wait.
+/// period with its jitter, whatever the other sub-VLs send. `plan_analysis::traffic_bounds` computes that wait.
 ///
 /// The run starts at a time at which the sub-VL has sent all that it accepted, for example when the end system opens.
 /// The wait starts when the message is accepted, at any time of the run. Premises:
 ///
-/// - The messages of the sub-VL are accepted in this order, none before the start, and two of one port at least its
-///   period apart (`KeepPeriods`).
+/// - The messages of the sub-VL are accepted in this order, none before the start. Each one is accepted at most the
+///   jitter of its port after its planned time, and the planned times of a port are at least its period apart
+///   (`KeepPeriods`).
 /// - A poll of the emitter that polls the queue of the sub-VL finds a message there while one that was accepted before
 ///   the time of the poll isn't wholly released (`AreFindingAll`). A drain needs no such premise.
 /// - Polls are timely from the start until the wait is over (`AreTimely`), the start isn't before the last release, the
@@ -82,9 +83,12 @@ pub fn traffic_in_run()
     // a message of an emitter with three sub-VLs that takes exactly its wait
     ensures in_turn { TakesItsWait }
 
+    // the second of two messages as near as the jitter allows, which takes exactly its wait
+    ensures near { MeetsWithJitter }
+
     // senders that aren't the plan's; a shorter wait; a message that isn't accepted; a start before the last release; a
-    // sub-VL that owes a fragment at the start; a period that isn't kept; a message before the start; a poll that
-    // doesn't find the message; an emitter that sends another; networks that are down; a late poll
+    // sub-VL that owes a fragment at the start; a period that isn't kept; a jitter that isn't; a message before the
+    // start; a poll that doesn't find the message; an emitter that sends another; networks that are down; a late poll
     ensures needed { NeedsTraffic }
 {}
 
@@ -96,8 +100,8 @@ pub fn traffic_in_run()
 /// are: the accepted messages without a released fragment, and the requests of other ports that are under way.
 /// Premises, beside the premises of `traffic_in_run`, of the same run:
 ///
-/// - Each request that is under way counts as a message of its port at that time (`KeepPeriods`), so that a port has
-///   one at most, and none sooner than its period after its last message.
+/// - Each request that is under way counts as a message of its port at that time (`KeepPeriods`). If its port has no
+///   jitter, it has one at most, and none sooner than its period after its last message.
 /// - Polls are timely until the microsecond before: one that is due at the time of the request may come after it.
 pub fn never_full()
     ensures never { NeverFull }
@@ -106,7 +110,7 @@ pub fn never_full()
     ensures worked { FillsItsQueue }
 
     // senders that aren't the plan's; a need that is one too small; a queue that is; a message that isn't accepted; a
-    // start before the last release; a sub-VL that owes a fragment at the start; a period that isn't kept; two threads;
-    // a poll that doesn't find the message; networks that are down; no poll
+    // start before the last release; a sub-VL that owes a fragment at the start; a period that isn't kept; a jitter
+    // that isn't; two threads; a poll that doesn't find the message; networks that are down; no poll
     ensures needed { NeedsPlaces }
 {}
