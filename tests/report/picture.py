@@ -59,6 +59,7 @@ class Source:
     text: str
     version: str
     date: str | None = None
+    has_jitter: bool = False
 
 
 class Page(html.parser.HTMLParser):
@@ -406,7 +407,10 @@ def faults_of(text: str, source: Source) -> Iterator[str]:
     yield from (f"the page has {what}" for what in page.elsewhere)
     if re.findall(r"\d[\d,]*\s\S+", page.prose) != PROSE + ["64\u00a0MiB"] * bool(heaviest(source.plan)):
         yield f"the prose is {page.prose}"
-    if source.has_traffic != ("if two messages of a port are at least its period apart. A message that a full queue" in page.prose):
+    kept = "if two messages of a port are at least its period apart"
+    if source.has_jitter:
+        kept = "if a port's messages are planned at least its period apart, and each one is accepted at most the port's jitter after its planned time"
+    if source.has_traffic != (f"{kept}. A message that a full queue" in page.prose):
         yield f"the premise of the wait by traffic is {not source.has_traffic}: {page.prose}"
     title = f"End system {source.plan['end_system']['id']}: {source.file}"
     if html.unescape(re.findall("<title>(.*)</title>", text)[0]) != title or safe(text.replace("\n", "")) != text.replace("\n", ""):

@@ -130,7 +130,8 @@ def page_faults(text: str, demands: dict[int, tuple], given: str, lateness: int)
     rows, verdict = traffic.rows_of(plan, demands, tables, lateness), done.stdout.splitlines()[0]
     name, date = picture.safe(os.path.basename(file)), date and picture.safe(date)
     queues = traffic.queues_of(plan, demands, tables, lateness)
-    source = picture.Source(plan, lateness, bool(demands), tables, rows, queues, verdict, name, text, VERSION, date)
+    late = any(jitter for _, _, _, jitter in demands.values())
+    source = picture.Source(plan, lateness, bool(demands), tables, rows, queues, verdict, name, text, VERSION, date, late)
     yield from picture.faults_of(pages[0], source)
 
 
@@ -278,7 +279,7 @@ def traffic_faults(seed: int) -> Iterator[str]:
     mates = [other for other in ports if other["sub"] == port["sub"]]
     if any(other["id"] not in demands for other in mates):
         return
-    flows = [(pieces(plan["vl"][0], other["max"]), demands[other["id"]][1]) for other in mates]
+    flows = [(pieces(plan["vl"][0], other["max"]), *demands[other["id"]][1::2]) for other in mates]
     wait = traffic.by_traffic(flows, used * pause)
     if wait is None:
         return
@@ -320,7 +321,8 @@ def full_faults(plans: int) -> Iterator[str]:
         lateness = rng.choice((0, 0, 1, 250, 999))
         plan = tomllib.loads(text)
         bag, capacity = 1000 * plan["vl"][0]["bag_ms"], plan["vl"][0]["capacity"]
-        demands = {other["id"]: ("", rng.choice((rng.randint(1, 400 * bag), bag * rng.randint(1, 64))), None) for other in plan["port"]}
+        periods = {other["id"]: rng.choice((rng.randint(1, 400 * bag), bag * rng.randint(1, 64))) for other in plan["port"]}
+        demands = {port: ("", period, None, rng.choice((0, 0, period, rng.randint(0, period)))) for port, period in periods.items()}
         need, is_full = full_run(text, port, demands, lateness)
         if is_full and isinstance(need, int) and need <= capacity:
             yield f"plan {seed}: port {port['id']} finds a queue of {capacity} full, and {need} are needed\n{text}{demands}"

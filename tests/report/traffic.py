@@ -1,6 +1,6 @@
 """The traffic of `afdx_bench report`: an independent model of the waits by traffic and of the places that queues need, texts
-with faults, and runs of the end system in which each port keeps its period, the other sub-VLs of its link are always full,
-and polls come as late as they may.
+with faults, and runs of the end system in which each port keeps its period with its jitter, the other sub-VLs of its link are
+always full, and polls come as late as they may.
 """
 import csv
 import io
@@ -10,7 +10,10 @@ from fractions import Fraction
 
 Plan = dict
 PORTS = "port,name,period_us,deadline_us\n"
+JITTERS = "port,period_us,jitter_us\n"
 LIMIT = 1_000_000_000_000
+# The demand of a port without one: name, period, deadline, jitter.
+NONE = ("", None, None, 0)
 # The columns of the CSV file: those of a port, and after them those of a sub-VL.
 HEAD = "port name link sub_vl fragments period_us deadline_us wait_queue_us wait_traffic_us holds slack_us".split()
 HEAD += ["missed", "capacity", "ports", "greatest", "bytes", "need", "suffices", "partitions"]
@@ -32,6 +35,15 @@ FAULTS = {
     PORTS + "10,a,0,0\n": ["line 2, period_us: 1 to 1000000000000 is wanted", "line 2, deadline_us: 1 to 1000000000000 is wanted"],
     PORTS + f"10,a,{LIMIT + 1},1.5\n": ["line 2, period_us: 1 to 1000000000000 is wanted", "line 2, deadline_us: 1 to 1000000000000 is wanted"],
     PORTS + "10,a,-1,+1\n": ["line 2, period_us: 1 to 1000000000000 is wanted", "line 2, deadline_us: 1 to 1000000000000 is wanted"],
+    JITTERS + "10,1000,1001\n": ["line 2, jitter_us: 0 to 1000 is wanted"],
+    JITTERS + "10,1000,-1\n": ["line 2, jitter_us: 0 to 1000 is wanted"],
+    JITTERS + "10,,1\n": ["line 2, jitter_us: 0 is wanted without a period"],
+    JITTERS + "10,,x\n": ["line 2, jitter_us: 0 is wanted without a period"],
+    JITTERS + "10,0,5\n": ["line 2, period_us: 1 to 1000000000000 is wanted"],
+    JITTERS + f"10,1.5,{LIMIT + 1}\n": [
+        "line 2, period_us: 1 to 1000000000000 is wanted", "line 2, jitter_us: 0 to 1000000000000 is wanted"
+    ],
+    "jitter_us,port,Jitter_US\n0,10,0\n": ["line 1, jitter_us: the column occurs twice"],
     # (the last two are a byte that isn't UTF-8, and a name that is one byte too long)
     **{
         PORTS + f"10,{name},1,1\n": ["line 2, name: at most 64 bytes of text without control characters are wanted"]
@@ -52,45 +64,54 @@ def crowds() -> Iterator[tuple[str, list[str]]]:
     yield PORTS + "9,,0,0\n" * 5000, [f"line {k + 2}, {kind}" for k in range(5000) for kind in kinds]
 
 
-def busy_rounds(flows: list[tuple[int, int]], turn: int) -> int | None:
+def times_of(period: int, jitter: int, end: int) -> list[int]:
+    """When a port hands messages over from 0 to before an end, as often as it may: those that are planned before 0 come at 0,
+    as late as the jitter allows, and the others on time."""
+    return [max(planned, 0) for planned in range(-jitter, end, period)]
+
+
+def busy_rounds(flows: list[tuple[int, int, int]], turn: int) -> int | None:
     """The first number of rounds in which as many fragments go out as come before their end, up to 65,536."""
     rounds = 1
     while rounds <= 65_536:
-        if sum(size * -(-rounds * turn // period) for size, period in flows) == rounds:
+        if sum(size * len(range(-jitter, rounds * turn, period)) for size, period, jitter in flows) == rounds:
             return rounds
         rounds += 1
     return None
 
 
-def by_traffic(flows: list[tuple[int, int]], turn: int) -> int | None:
+def by_traffic(flows: list[tuple[int, int, int]], turn: int) -> int | None:
     """The greatest wait in the longest busy time of a sub-VL that sends a fragment each `turn`."""
-    if sum(Fraction(size * turn, period) for size, period in flows) > 1:
+    if sum(Fraction(size * turn, period) for size, period, _ in flows) > 1:
         return None
     rounds = busy_rounds(flows, turn)
     if rounds is None:
         return None
-    times = {k * period for _, period in flows for k in range(rounds * turn // period + 1)}
-    return max(turn * sum(size * (1 + t // period) for size, period in flows) - t for t in times)
+    times = {t for _, period, jitter in flows for t in times_of(period, jitter, rounds * turn + 1)}
+    return max(turn * sum(size * len(range(-jitter, t + 1, period)) for size, period, jitter in flows) - t for t in times)
 
 
-def need_by_traffic(flows: list[tuple[int, int]], turn: int) -> int | str:
+def need_by_traffic(flows: list[tuple[int, int, int]], turn: int) -> int | str:
     """The places that the queue of a sub-VL needs that sends a fragment each `turn`: the less of two bounds. A message that
     comes at t finds those that have come and aren't begun, by fragments of the greatest size; and none is older than a wait."""
-    if sum(Fraction(size * turn, period) for size, period in flows) > 1:
+    if sum(Fraction(size * turn, period) for size, period, _ in flows) > 1:
         return "overloaded"
     rounds, wait = busy_rounds(flows, turn), by_traffic(flows, turn)
     if rounds is None:
         return "unknown"
-    greatest = max(size for size, _ in flows)
-    times = {k * period for _, period in flows for k in range(rounds * turn // period + 1)}
-    backlog = max(sum(1 + t // period for _, period in flows) - -(-(max(t - 1, 0) // turn) // greatest) for t in times)
-    return min(backlog, sum(1 + wait // period for _, period in flows))
+    greatest = max(size for size, _, _ in flows)
+    times = {t for _, period, jitter in flows for t in times_of(period, jitter, rounds * turn + 1)}
+
+    def come(t: int) -> int:
+        return sum(len(range(-jitter, t + 1, period)) for _, period, jitter in flows)
+
+    return min(max(come(t) - -(-(max(t - 1, 0) // turn) // greatest) for t in times), come(wait))
 
 
-def flows_of(plan: Plan, demands: dict[int, tuple], sizes: dict[int, int], link: Plan, sub: int) -> list[tuple[int, int | None]]:
-    """The fragments of a message and the period of each port of a sub-VL."""
+def flows_of(plan: Plan, demands: dict[int, tuple], sizes: dict[int, int], link: Plan, sub: int) -> list[tuple[int, int | None, int]]:
+    """The fragments of a message, the period and the jitter of each port of a sub-VL."""
     mates = [port["id"] for port in plan["port"] if (port["vl"], port["sub"]) == (link["id"], sub)]
-    return [(sizes[mate], demands.get(mate, ("", None, None))[1]) for mate in mates]
+    return [(sizes[mate], *demands.get(mate, NONE)[1::2]) for mate in mates]
 
 
 def queues_of(plan: Plan, demands: dict[int, tuple], tables: dict, lateness: int) -> list[list[str]]:
@@ -101,7 +122,7 @@ def queues_of(plan: Plan, demands: dict[int, tuple], tables: dict, lateness: int
         for sub in range(link["sub_vls"]):
             flows = flows_of(plan, demands, sizes, link, sub)
             row = [str(link["id"]), str(sub), str(link["capacity"]), "", ""]
-            if flows and None not in [period for _, period in flows]:
+            if flows and None not in [period for _, period, _ in flows]:
                 need = need_by_traffic(flows, used * (1000 * link["bag_ms"] + lateness))
                 row[3:] = [str(need), "yes" if isinstance(need, int) and need <= link["capacity"] else "no"]
             rows.append(row)
@@ -121,16 +142,15 @@ def sentence_of(plan: Plan, queues: list[list[str]]) -> str:
 
 
 def rows_of(plan: Plan, demands: dict[int, tuple], tables: dict, lateness: int) -> list[list[str]]:
-    """The rows of a CSV file: `demands` has name, period and deadline by port, `tables` the rows of the report."""
+    """The rows of a CSV file: `demands` has name, period, deadline and jitter by port, `tables` the rows of the report."""
     links, rows = {link["id"]: link for link in plan["vl"]}, []
     for port, row in zip(plan["port"], tables["ports"], strict=True):
         link = links[port["vl"]]
         used = len({other["sub"] for other in plan["port"] if other["vl"] == port["vl"]})
-        mates = [other for other in plan["port"] if (other["vl"], other["sub"]) == (port["vl"], port["sub"])]
-        sizes = {row[0]: int(row[3]) for row in tables["ports"]}
-        flows = [(sizes[str(other["id"])], demands.get(other["id"], ("", None, None))[1]) for other in mates]
-        wait = None if None in [period for _, period in flows] else by_traffic(flows, used * (1000 * link["bag_ms"] + lateness))
-        name, period, deadline = demands.get(port["id"], ("", None, None))
+        sizes = {int(row[0]): int(row[3]) for row in tables["ports"]}
+        flows = flows_of(plan, demands, sizes, link, port["sub"])
+        wait = None if None in [period for _, period, _ in flows] else by_traffic(flows, used * (1000 * link["bag_ms"] + lateness))
+        name, period, deadline, _ = demands.get(port["id"], NONE)
         queue = int(row[4])
         least = queue if wait is None else min(wait, queue)
         end = ["", ""] if deadline is None else [str(deadline - least), "yes" if least > deadline else "no"]
@@ -153,26 +173,29 @@ def text_row(row: list[str]) -> list[str]:
 
 
 def random_demands(rng: random.Random, plan: Plan, every: bool) -> dict[int, tuple]:
-    """Names, periods and deadlines for ports of a plan; a period for each, or for some."""
-    links, demands = {link["id"]: link for link in plan["vl"]}, {}
+    """Names, periods, deadlines and jitters for ports of a plan; a period for each, or for some; in half of the plans no jitter."""
+    links, demands, late = {link["id"]: link for link in plan["vl"]}, {}, rng.random() < 0.5
     for port in plan["port"]:
         if every or rng.random() < 0.9:
             bag = 1000 * links[port["vl"]]["bag_ms"]
             period = rng.choice((rng.randint(1, 400 * bag), rng.randint(20, 400) * bag, bag * rng.randint(1, 64), LIMIT, 2**32 + rng.randrange(9)))
             name = rng.choice(("", "engine", "left wing", "Ä, \"7\""))
-            demands[port["id"]] = (name, period, rng.choice((None, 1, LIMIT, rng.randint(1, 500 * bag))))
+            jitter = rng.choice((0, 1, period, period - 1, rng.randint(0, period))) if late else 0
+            demands[port["id"]] = (name, period, rng.choice((None, 1, LIMIT, rng.randint(1, 500 * bag))), jitter)
     return demands
 
 
 def text_of(rng: random.Random, demands: dict[int, tuple]) -> str:
     """A traffic text, with its columns and its rows in any order."""
     out, columns = io.StringIO(), ["port", "name", "period_us", "deadline_us"]
+    columns += ["jitter_us"] * any(jitter for _, _, _, jitter in demands.values())
     rng.shuffle(columns)
     writer = csv.writer(out, lineterminator=rng.choice(("\n", "\r\n")))
     writer.writerow(columns)
     for port in rng.sample(sorted(demands), len(demands)):
-        name, period, deadline = demands[port]
+        name, period, deadline, jitter = demands[port]
         cells = {"port": port, "name": name, "period_us": period, "deadline_us": "" if deadline is None else deadline}
+        cells["jitter_us"] = jitter or rng.choice(("", 0))
         writer.writerow([cells[column] for column in columns])
     return out.getvalue()
 
@@ -190,7 +213,7 @@ def script_of(
     subs = sorted({other["sub"] for other in others})
     place = sum(sub < port["sub"] for sub in subs)
     start = pause * (place + (before - 1) * (len(subs) + 1) if before else place % max(len(subs), 1))
-    due = sorted((start + t, other["id"], other["max"]) for other in mates for t in range(0, busy, demands[other["id"]][1]))
+    due = sorted((start + t, other["id"], other["max"]) for other in mates for t in times_of(*demands[other["id"]][1::2], busy))
     lines, accepted = ([f"send {port['id']} {'5a' * port['max']}"], [start]) if before else ([], [])
     for poll in range(0, start + busy + pause, pause):
         while due and due[0][0] < poll:
@@ -209,7 +232,7 @@ def full_script(plan: Plan, port: Plan, demands: dict[int, tuple], lateness: int
     others = [other for other in plan["port"] if other["sub"] != port["sub"]]
     subs = sorted({other["sub"] for other in others})
     start = pause * (sum(sub < port["sub"] for sub in subs) + (before - 1) * (len(subs) + 1))
-    due = sorted((start + t, place) for place, other in enumerate(mates) for t in range(0, busy + 1, demands[other["id"]][1]))
+    due = sorted((start + t, place) for place, other in enumerate(mates) for t in times_of(*demands[other["id"]][1::2], busy + 1))
     lines = [f"send {port['id']} {'5a' * port['max']}"]
     for poll in range(0, start + busy + pause + 1, pause):
         while due and due[0][0] <= poll and poll > start:
