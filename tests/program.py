@@ -137,7 +137,7 @@ TERMINAL = [
     ([*RUN, "--capture", "/dev/full"], 4, "write failed\n", f"/dev/full: {NO_ROOM}"),
     (["storm", "none.toml", *STORM[2:]], 4, "read failed\n", f"none.toml: {NOT_THERE}"),
     (["storm", "wrong.toml", *STORM[2:]], 2, BAD_BAG, FOUND),
-    (SHORT_MAX, 2, "storm refused: a port's max is below 6\n", "small.toml: give each port a max of 6 or more\n"),
+    (SHORT_MAX, 2, "storm refused: a port's max is below 6\n", "small.toml: a storm's messages have 6 bytes, so give each port a max of 6 or more\n"),
     (LATE, 5, "turns used up\n", "demo.toml: give more --turns, or fewer --messages\n"),
     (["report", "wrong.toml"], 2, BAD_BAG, FOUND),
     (RUN, 0, "", ""),

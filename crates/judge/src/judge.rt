@@ -32,8 +32,9 @@ pub struct Options {
     /// Frames were recorded with their check sequence, which is tested.
     pub fcs: bool,
     /// Frames are judged by ARINC 664 Part 7 alone, as frames of other makers: their time to live, type of service and
-    /// padding may be any, and messages may be cut anywhere, have no bytes, or a checksum that the plan has not.
-    /// Identifications only tell neighbouring messages of a sub-VL apart that are cut.
+    /// padding may be any, a frame may carry ICMP, and messages may be cut anywhere, have no bytes, the flag DF if they
+    /// are in one frame, or a checksum that the plan has not. Identifications only tell neighbouring messages of a
+    /// sub-VL apart that are cut.
     pub arinc: bool,
 }
 
