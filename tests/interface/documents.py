@@ -4,9 +4,9 @@ import random
 from collections.abc import Iterator
 
 COLUMNS = ("vl vl_name bag_ms lmax sub_vls capacity networks port name sub partition kind source destination max dest_ip "
-           "checksum end_system period_us deadline_us").split()
+           "checksum end_system period_us jitter_us deadline_us").split()
 LINK = ["vl_name", "bag_ms", "lmax", "sub_vls", "capacity", "networks"]
-OPTIONAL = ["vl_name", "networks", "name", "dest_ip", "checksum", "period_us", "deadline_us"]
+OPTIONAL = ["vl_name", "networks", "name", "dest_ip", "checksum", "period_us", "jitter_us", "deadline_us"]
 NUMBERS = {"vl": (0, 65535), "bag_ms": (1, 128), "lmax": (64, 1518), "sub_vls": (1, 4), "capacity": (1, 256), "port": (0, 65535),
            "sub": (0, 3), "partition": (0, 31), "source": (1, 65535), "destination": (1, 65535), "max": (1, 8192),
            "end_system": (0, 65535)}
@@ -30,12 +30,14 @@ def document(rng: random.Random, links: int, ports: int) -> list[Row]:
         link = of_links[place if place < links else rng.randrange(links)]
         kind = rng.choice(("sampling", "queuing"))
         most = int(link["lmax"]) - 47 if kind == "sampling" else 8192
+        period = rng.choice(("", str(rng.randint(1, 10**6))))
+        jitter = rng.choice(("", "0", str(rng.randint(0, int(period))))) if period else rng.choice(("", "0"))
         rows.append({
             **link, "port": str(port), "name": rng.choice(NAMES), "sub": str(rng.randrange(int(link["sub_vls"]))),
             "partition": str(rng.randrange(32)), "kind": kind, "source": str(1000 + place), "destination": str(rng.randint(1, 65535)),
             "max": str(rng.randint(1, most)), "dest_ip": rng.choice(("", f"10.{place // 250}.2.{place % 250}")),
             "checksum": rng.choice(("", "none", "udp")), "end_system": end_system,
-            "period_us": rng.choice(("", str(rng.randint(1, 10**6)))), "deadline_us": rng.choice(("", str(rng.randint(1, 10**6)))),
+            "period_us": period, "jitter_us": jitter, "deadline_us": rng.choice(("", str(rng.randint(1, 10**6)))),
         })
     return rng.sample(rows, len(rows))
 
@@ -50,7 +52,7 @@ def bench() -> list[Row]:
             "sub_vls": "2", "capacity": "8", "networks": ("both", "both", "a", "b")[link % 4], "port": str(1000 + port),
             "name": f"signal {port}", "sub": str(sub), "partition": str(port % 5), "kind": ("sampling", "queuing")[port % 2],
             "source": str(2000 + port), "destination": "3000", "max": str(20 + port % 30 + 90 * (port % 2)), "dest_ip": "", "checksum": ("none", "udp")[port % 2],
-            "end_system": "7", "period_us": str(100_000 + 10_000 * (port % 7)), "deadline_us": "200000",
+            "end_system": "7", "period_us": str(100_000 + 10_000 * (port % 7)), "jitter_us": "", "deadline_us": "200000",
         })
     return rows
 

@@ -26,7 +26,7 @@ from expected import check_of  # noqa: E402
 from trying import DEMO, Tries  # noqa: E402
 
 HEAD = ",".join(documents.COLUMNS)
-ROW = "1,,8,200,2,4,,10,,0,1,sampling,1000,2000,64,,,1,,"
+ROW = "1,,8,200,2,4,,10,,0,1,sampling,1000,2000,64,,,1,,,"
 # Documents with faults, and what standard error says of each.
 FAULTS = {
     "": ["row 1: a header is missing"],
@@ -34,7 +34,7 @@ FAULTS = {
     HEAD.replace("lmax", "l max") + "\n": ["row 1, lmax: the column is missing"],
     HEAD + ",LMAX\n" + ROW + ",\n": ["row 1, lmax: the column occurs twice"],
     HEAD + "\n": ["row 1: a row of a port is missing"],
-    HEAD + "\n" + ROW + ",\n1,2\n": ["row 2: the number of cells is 21, and that of the header 20", "row 3: the number of cells is 2, and that of the header 20"],
+    HEAD + "\n" + ROW + ",\n1,2\n": ["row 2: the number of cells is 22, and that of the header 21", "row 3: the number of cells is 2, and that of the header 21"],
     HEAD + "\n" + ROW + "\n\n" + ROW.replace("10,,0", "11,,0") + "\n": ['row 4, destination: "2000" is seen, and row 2 has the same vl, partition, source, destination and dest_ip'],
     HEAD + "\n" + ROW + "\n" + ROW.replace("1000", "1001").replace("8,200,2", "4,,2") + "\n": [
         'row 3, bag_ms: "4" is seen, and row 2 has "8" for the same link', 'row 3, lmax: the cell is empty, and row 2 has "200" for the same link',
@@ -119,8 +119,8 @@ def plan_faults(seed: int) -> Iterator[str]:
     checked = ran("check", "plan.toml")
     if (checked.returncode, checked.stdout.decode(), checked.stderr) != (0, check_of(documents.plan_of(rows)), b""):
         yield f"seed {seed}: check says {checked}"
-    save("traffic.csv", "port,name,period_us,deadline_us\n" + "".join(
-        ",".join(documents.quoted(row[it], ",") for it in ("port", "name", "period_us", "deadline_us")) + "\n" for row in rows))
+    columns = ("port", "name", "period_us", "jitter_us", "deadline_us")
+    save("traffic.csv", ",".join(columns) + "\n" + "".join(",".join(documents.quoted(row[it], ",") for it in columns) + "\n" for row in rows))
     reports = [ran("report", "plan.toml", "--traffic", it) for it in ("document.csv", "traffic.csv")]
     if reports[0].stdout != reports[1].stdout or reports[0].returncode or reports[0].stderr.decode().splitlines() != left_alone(others):
         yield f"seed {seed}: {reports[0]}, and by a file of its own {reports[1]}"
@@ -165,7 +165,7 @@ def schedule_faults(seed: int) -> Iterator[str]:
     rng = random.Random(seed)
     rows = documents.document(rng, 3, rng.randint(3, 9))
     for row in rows:
-        row["period_us"] = rng.choice(("", "1000", "999", str(rng.randint(300, 5_000_000))))
+        row["period_us"], row["jitter_us"] = rng.choice(("", "1000", "999", str(rng.randint(300, 5_000_000)))), ""
         row["max"] = rng.choice(("1", "3", "5", row["max"])) if row["kind"] == "queuing" else row["max"]
     save("document.csv", documents.plain(rows))
     save("plan.toml", ran("import", "document.csv").stdout)

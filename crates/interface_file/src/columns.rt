@@ -60,7 +60,7 @@ const BAG: &str = "1, 2, 4, 8, 16, 32, 64 or 128";
 const ADDRESS: &str = "an address in 10.0.0.0/8, without leading zeros,";
 
 /// The columns, in the order of `COLUMNS`.
-const TABLE: [Column; 20] = [
+const TABLE: [Column; 21] = [
     Column(Subject::Port, "vl", Content::Number, true, IDENTIFIER),
     Column(Subject::Link, "", Content::Name, false, NAME_WANTED),
     Column(Subject::Link, "bag_ms", Content::Number, true, BAG),
@@ -105,11 +105,12 @@ const TABLE: [Column; 20] = [
     Column(Subject::EndSystem, "id", Content::Number, true, IDENTIFIER),
     Column(Subject::Traffic, "", Content::Word, false, ""),
     Column(Subject::Traffic, "", Content::Word, false, ""),
+    Column(Subject::Traffic, "", Content::Word, false, ""),
 ];
 
 /// Returns a column by its place in `COLUMNS`.
 pub(crate) fn column_at(place: usize) -> &'static Column
-    requires { place < 20 }
+    requires { place < 21 }
 {
     &TABLE[place]
 }

@@ -237,7 +237,7 @@ fn same(seen: String, first: u64, what: &'static str) -> Wrong {
 
 /// Returns that a cell has another value than one that is wanted in its column.
 fn value(place: usize, seen: String) -> Wrong {
-    let wanted = if place < 20 { column_at(place).4 } else { "" };
+    let wanted = if place < 21 { column_at(place).4 } else { "" };
     Wrong::Value { wanted, seen }
 }
 

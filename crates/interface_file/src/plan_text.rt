@@ -47,7 +47,7 @@ impl fmt::Display for Value<'_> {
 
 /// Writes a key and the value of a cell, but nothing of an empty cell.
 fn write_key(text: &mut String, key: &str, row: &PortCells, place: usize) -> Result<(), AllocError>
-    requires { place < 20 }
+    requires { place < 21 }
 {
     let cell = row.cell(place);
     if cell.is_empty() {

@@ -37,7 +37,7 @@ pub(crate) struct Document {
     pub faults: Faults,
     // the number of cells in a row, once a header without a fault is read, and the places of the columns
     pub width: Option<usize>,
-    places: [Option<usize>; 20],
+    places: [Option<usize>; 21],
     // the number of the row that is read, and the number of line feeds in the cells before it
     row: u64,
     breaks: u64,
@@ -53,7 +53,7 @@ pub(crate) fn read_document(alloc: Global, text: &[u8]) -> Result<Document, Allo
         rows: Vec::new(alloc),
         others: Others::new(alloc),
         faults: Faults::new(alloc),
-        places: [None; 20],
+        places: [None; 21],
         width: None,
         row: 0,
         breaks: 0,
@@ -114,7 +114,7 @@ impl Document {
         for place in 0..row.len() {
             self.name(place, row.get(place).unwrap_or(b""))?;
         }
-        for place in 0..20usize {
+        for place in 0..21usize {
             let Column(_, _, _, is_needed, _) = column_at(place);
             if *is_needed && self.places[place].is_none() {
                 self.faults.add(self.row, Some(place), Wrong::NoColumn)?;
@@ -129,7 +129,7 @@ impl Document {
     /// Reads the name of a column.
     fn name(&mut self, place: usize, cell: &[u8]) -> Result<(), AllocError> {
         match column_of(&COLUMNS, cell) {
-            Some(column) if column < 20 => {
+            Some(column) if column < 21 => {
                 if self.places[column].is_some() {
                     return self.faults.add(self.row, Some(column), Wrong::SecondColumn);
                 }
@@ -156,8 +156,8 @@ impl Document {
             let wrong = Wrong::Limit("at most 256 rows of ports");
             return self.faults.add(self.row, None, wrong);
         }
-        let mut cells = Vec::with_capacity(alloc, 20)?;
-        for place in 0..20usize {
+        let mut cells = Vec::with_capacity(alloc, 21)?;
+        for place in 0..21usize {
             let cell = row.get(self.places[place].unwrap_or(usize::MAX));
             let cell = self.cell(alloc, place, cell.unwrap_or(b""))?;
             cells.push(cell)?;
@@ -171,7 +171,7 @@ impl Document {
 
     /// Reads a cell of a column. A name with a fault is read as none.
     fn cell(&mut self, alloc: Global, place: usize, cell: &[u8]) -> Result<String, AllocError>
-        requires { place < 20 }
+        requires { place < 21 }
     {
         let Column(subject, _, content, _, wanted) = column_at(place);
         match content {

@@ -5,7 +5,7 @@ use crate::cells::bare;
 
 /// The columns of an interface document, by their names in its header. Each row belongs to a port; the cells on its
 /// link are in each row of the link.
-pub const COLUMNS: [&str; 20] = [
+pub const COLUMNS: [&str; 21] = [
     "vl",
     "vl_name",
     "bag_ms",
@@ -25,6 +25,7 @@ pub const COLUMNS: [&str; 20] = [
     "checksum",
     "end_system",
     "period_us",
+    "jitter_us",
     "deadline_us",
 ];
 
