@@ -102,7 +102,7 @@ fn add_differences(
 ) -> Result<(), AllocError> {
     for row in rows {
         let of_link = rows.iter().find(|other| other.cell(VL) == row.cell(VL));
-        for place in 0..20usize {
+        for place in 0..21usize {
             let Column(subject, _, _, _, _) = column_at(place);
             let (first, whole) = match subject {
                 Subject::Link => (of_link, "the same link"),

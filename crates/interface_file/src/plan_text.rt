@@ -59,7 +59,7 @@ fn write_key(text: &mut String, key: &str, row: &PortCells, place: usize) -> Res
 
 /// Writes the keys of a table that its columns give, but for the identifier of a link or a port.
 fn write_keys(text: &mut String, row: &PortCells, subject: Subject) -> Result<(), AllocError> {
-    for place in 0..20usize {
+    for place in 0..21usize {
         let Column(about, key, content, _, _) = column_at(place);
         if *about == subject && *content != Content::Name && place != PORT {
             write_key(text, key, row, place)?;
