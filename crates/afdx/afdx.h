@@ -26,7 +26,8 @@
      realloc and free, which come from one allocator; a program that links libafdx_core.a defines them itself, as
      docs/guide/c.md says.
    - No call is made from a signal handler, or in the forked child of a process with threads.
-   - The stack has room: 4 KB for the library, and AFDX_TEXT_STACK bytes for a call that reads a text.
+   - The stack has room: 4 KB for the library, and what rattle_alloc takes; AFDX_TEXT_STACK bytes for a call that reads
+     a text.
    A call that takes a pointer to const for a handle changes neither the handle nor the end system or port in it.
    afdx_script_line, afdx_explain, afdx_memory and afdx_version_number take no handle, and may be called by any thread.
 
@@ -42,7 +43,7 @@ extern "C" {
 #endif
 
 /** The version of this header and of the library installed with it. The first number changes with incompatible
-   changes, and libafdx.so.2 is named by it; the second with calls, fields or numbers that are added. */
+   changes, and libafdx.so.2 is named by it; the second with calls, structs or numbers that are added. */
 #define AFDX_VERSION "2.0.0"
 #define AFDX_VERSION_MAJOR 2 /**< its first number */
 #define AFDX_VERSION_MINOR 0 /**< its second number */
