@@ -92,7 +92,7 @@ def fault_faults() -> Iterator[str]:
     """What is wrong with how documents with faults are told."""
     rows = documents.document(random.Random(5), 4, 12)
     cases = [*FAULTS.items(), *((documents.plain(changed), lines) for changed, lines in documents.value_faults(rows))]
-    cases.append((HEAD + "\n" + "\n".join(["x," * 18 + "x"] * 5000), [f"row {k + 2}: the number of cells is 19, and that of the header 20" for k in range(5000)]))
+    cases.append((HEAD + "\n" + "\n".join(["x," * 18 + "x"] * 5000), [f"row {k + 2}: the number of cells is 19, and that of the header {len(documents.COLUMNS)}" for k in range(5000)]))
     for text, lines in cases:
         done = imported(text)
         others = [";"] if text == "\n ,;\n" else ["l max"] if "l max" in text else []
