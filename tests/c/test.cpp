@@ -6,6 +6,7 @@
 #include <afdx.hpp>
 
 #include <algorithm>
+#include <chrono>
 #include <cstdio>
 #include <fstream>
 #include <iterator>
@@ -204,8 +205,9 @@ static void send_all(afdx::Port port) {
 static void try_thread(const std::string &demo) {
     afdx::EndSystem it(demo);
     std::thread sender(send_all, it.port(10));
+    const auto end = std::chrono::steady_clock::now() + std::chrono::minutes(2);
     unsigned came = 0, in_order = 0;
-    for (std::uint64_t now = 0; came < 1000 && now < 1000000000; now += 1000) {
+    for (std::uint64_t now = 0; came < 1000 && std::chrono::steady_clock::now() < end; now += 1000) {
         it.poll(now);
         it.each_frame(Network::A, [&](const std::uint8_t *frame, std::size_t length) {
             in_order += length == 60 && frame[42] == (came & 0xff);
@@ -213,6 +215,7 @@ static void try_thread(const std::string &demo) {
         });
         std::this_thread::yield();
     }
+    it.close(1, 0); // (so the sender ends, also if messages are missing)
     sender.join();
     CHECK(came == 1000 && in_order == 1000);
 }
