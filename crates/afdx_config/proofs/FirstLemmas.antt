@@ -1,5 +1,5 @@
 -- The first finding has the fault of the least number, and so has the text.
-use Rattle.afdx_config.proofs.Names.{◌≡◌, ◌≢◌, ℕ, ◌<◌, List, [], ◌∷◌, ◌++◌, true, false, Some, None, refl, ap, subst, ◌∙◌, arith, eq-eqb, list_any, same_Some, Result, Ok, Err, IfOk, IfErr, Members, map, nat_tests, fault_number, cells_of, ConfigFault, Memory, Plan, plan_of, shows, Reads, HasFault, IsLeastFault, IsLeastShown, IsPlanOf, plan_shows, whole, sym, Finding, finding_of, findings, has, FirstIsAnswered, by_fault, number_of, plan_findings, value_findings, Holds, IsOrdered, fault_of, Kept, told_once}
+use Rattle.afdx_config.proofs.Names.{Bool, ◌≡◌, ◌≢◌, ℕ, ◌<◌, List, [], ◌∷◌, ◌++◌, true, false, Some, None, refl, ap, subst, ◌∙◌, arith, eq-eqb, list_any, same_Some, Result, Ok, Err, IfOk, IfErr, Members, map, nat_tests, fault_number, cells_of, ConfigFault, Memory, Plan, plan_of, shows, Reads, HasFault, IsLeastFault, IsLeastShown, IsPlanOf, plan_shows, whole, sym, Finding, finding_of, findings, has, FirstIsAnswered, by_fault, number_of, plan_findings, value_findings, Holds, IsOrdered, fault_of, Kept, told_once}
 use Rattle.afdx_config.proofs.OnceLemmas.{any_once, no_once}
 use Rattle.afdx_config.proofs.OrderLemmas.{any_by_fault, are_ordered, no_finding, r_map}
 use Rattle.afdx_config.proofs.ShownLemmas.{faults_are_found, no_toml, none_has, plan_shown}
@@ -17,15 +17,22 @@ of_text f text doc reads h = grind (arith, nat_tests, no_toml)
 lower : (f : ConfigFault) (x : Finding) (rest : List Finding) → fault_number f < number_of x → IsOrdered (x ∷ rest) → list_any (has f) (x ∷ rest) ≡ false
 lower f x rest below ordered = grind (arith, nat_tests, none_has, r_map)
 
--- the fault of the first finding is the least of the text
-least : (text : List ℕ) (doc : Members) (x : Finding) (rest : List Finding) → Reads text doc → findings doc ≡ x ∷ rest → IsLeastFault text x.fault
-least text doc x rest reads is =
+-- the fault of the first finding is the least one that is shown
+least_of : (shown : ConfigFault → Bool) (all : List Finding) (x : Finding) (rest : List Finding) → by_fault all ≡ x ∷ rest
+    → ((f : ConfigFault) → shown f ≡ list_any (has f) (by_fault all))
+    → (shown x.fault ≡ true) × ((f : ConfigFault) → fault_number f < number_of x → shown f ≡ false)
+least_of shown all x rest is same =
     let number = eq-eqb (number_of x) (number_of x) refl in
     let here : list_any (has x.fault) (x ∷ rest) ≡ true = rw number refl in
-    let ordered : IsOrdered (x ∷ rest) = subst IsOrdered is (are_ordered (told_once (value_findings doc ++ plan_findings (cells_of doc)))) in (
-      of_text x.fault text doc reads (faults_are_found doc x.fault ∙ ap (list_any (has x.fault)) is ∙ here),
-      λ f below. hasnt f text doc reads (faults_are_found doc f ∙ ap (list_any (has f)) is ∙ lower f x rest below ordered),
+    let ordered : IsOrdered (x ∷ rest) = subst IsOrdered is (are_ordered all) in (
+      same x.fault ∙ ap (list_any (has x.fault)) is ∙ here,
+      λ f below. same f ∙ ap (list_any (has f)) is ∙ lower f x rest below ordered,
     )
+
+-- so is it of the text
+least : (text : List ℕ) (doc : Members) (x : Finding) (rest : List Finding) → Reads text doc → findings doc ≡ x ∷ rest → IsLeastFault text x.fault
+least text doc x rest reads is = let (here, less) = least_of (λ f. shows f doc) (told_once (value_findings doc ++ plan_findings (cells_of doc))) x rest is (faults_are_found doc) in
+    (of_text x.fault text doc reads here, λ f below. hasnt f text doc reads (less f below))
 
 -- a text whose document has no finding has no fault
 fine : (text : List ℕ) (doc : Members) → Reads text doc → findings doc ≡ [] → (f : ConfigFault) → ¬ HasFault f text
@@ -64,15 +71,7 @@ least_shown plan fault is = here (by_fault (told_once (plan_findings (whole plan
 
     here : (xs : List Finding) → by_fault (told_once (plan_findings (whole plan))) ≡ xs → fault_of xs ≡ Some fault → IsLeastShown fault plan
     here [] all at = cc
-    here (x ∷ rest) all at =
-        let same = same_Some x.fault fault at in
-        let number = eq-eqb (number_of x) (number_of x) refl in
-        let first : list_any (has x.fault) (x ∷ rest) ≡ true = rw number refl in
-        let ordered : IsOrdered (x ∷ rest) = subst IsOrdered all (are_ordered (told_once (plan_findings (whole plan)))) in
-        rw (← same) (
-          shown x.fault ∙ ap (list_any (has x.fault)) all ∙ first,
-          λ f below. shown f ∙ ap (list_any (has f)) all ∙ lower f x rest below ordered,
-        )
+    here (x ∷ rest) all at = rw (← same_Some x.fault fault at) (least_of (λ f. plan_shows f plan) (told_once (plan_findings (whole plan))) x rest all shown)
 
 -- without findings, values have none
 pub no_value : (doc : Members) → findings doc ≡ [] → value_findings doc ≡ []

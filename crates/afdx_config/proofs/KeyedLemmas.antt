@@ -1,5 +1,6 @@
 -- Rows by their keys.
-use Rattle.afdx_config.proofs.Names.{fun_ext, ◌≡◌, ℕ, ◌+◌, ◌-◌, ◌<◌, ◌≤◌, List, [], ◌∷◌, length, drop, get_or, cond, Bool, false, Option, Some, None, refl, ap, sym, ◌∙◌, arith, drop_more, drop_all, map, map-map, nat_eq, position, position_from, position_from-zero, option_map_or, nat_cmp, nat_tests, Ordering, both, is_key, first_row, is_eq, bytes_eq, slice_cmp, is_eq-slice_cmp, find, find_at, position_or_len, option_and_then, slice_get, PortRow, LinkRow, is_row_of, slice_get_past, IfSome, position-Some}
+use Rattle.afdx_config.proofs.Names.{fun_ext, ◌≡◌, ℕ, ◌+◌, ◌-◌, ◌<◌, ◌≤◌, List, [], ◌∷◌, length, drop, get_or, cond, Bool, false, Option, Some, None, refl, ap, sym, ◌∙◌, arith, drop_more, drop_all, map, nat_eq, position, position_from, position_from-zero, option_map_or, nat_cmp, nat_tests, Ordering, both, is_key, first_row, each_row, pair_finding, pair_findings, ConfigFault, Place, is_eq, bytes_eq, slice_cmp, is_eq-slice_cmp, find, find_at, position_or_len, option_and_then, slice_get, PortRow, LinkRow, is_row_of, slice_get_past, IfSome, position-Some}
+use Rattle.afdx_config.proofs.AddLemmas.{each_row-map}
 
 -- the first row from the one before i on
 pub first_from : {A : Type 0} (test : A → Bool) (rows : List A) (i : ℕ) (d x : A) → 0 < i → i ≤ length rows → get_or rows (i - 1) d ≡ x
@@ -34,10 +35,11 @@ pub row_is : {A K : Type 0} (cmp : K → K → Ordering) (key : A → Option K) 
     → ((e : A) → test e ≡ option_map_or (λ k. is_key cmp k (key e)) o false) → first_row cmp (map key rows) o ≡ position test rows
 row_is cmp key rows test o same = grind (arith, nat_tests, is_key, position_map, position_none)
 
-pub rows_keyed : {A K : Type 0} (cmp : K → K → Ordering) (key : A → Option K) (clash : A → A → Bool) (rows : List A)
-    → ((e r : A) → clash e r ≡ option_map_or (λ k. is_key cmp k (key e)) (key r) false)
-    → map (first_row cmp (map key rows)) (map key rows) ≡ map (λ r. position (λ e. clash e r) rows) rows
-rows_keyed cmp key clash rows same = grind (arith, nat_tests, first_row, map-map, row_is)
+pub rows_keyed : {A K : Type 0} (cmp : K → K → Ordering) (key : A → Option K) (clash : A → A → Bool) (fault : ConfigFault) (name : List ℕ)
+    (at : ℕ → Place) (rows : List A) → ((e r : A) → clash e r ≡ option_map_or (λ k. is_key cmp k (key e)) (key r) false)
+    → each_row (λ k own. pair_finding fault name at k (first_row cmp (map key rows) own)) 1 (map key rows) ≡ pair_findings fault name at clash rows
+rows_keyed cmp key clash fault name at rows same = each_row-map (λ k own. pair_finding fault name at k (first_row cmp (map key rows) own)) key 1 rows
+    ∙ ap (λ first. each_row (λ k r. pair_finding fault name at k (first r)) 1 rows) (fun_ext (λ r. row_is cmp key rows (λ e. clash e r) (key r) (λ e. same e r)))
 
 -- two numbers are the same exactly if the order says so
 pub tied : (a b : ℕ) → nat_eq a b ≡ is_eq (nat_cmp a b)

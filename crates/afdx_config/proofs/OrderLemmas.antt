@@ -1,5 +1,5 @@
 -- Findings in the order of the numbers of their faults.
-use Rattle.afdx_config.proofs.Names.{fold-append, common_steps, length-take, map-append, drop-map, take-append-drop, take-append-le, take-take, get_or-map, fold, insert, length-append, ◌≡◌, ℕ, zero, suc, ◌+◌, ◌-◌, ◌<◌, ◌≤◌, List, [], ◌∷◌, ◌++◌, length, take, drop, get_or, map, Bool, true, false, ◌||◌, cond, refl, ap, sym, ◌∙◌, arith, take_all, take-map, length-map, drop_more, fault_number, AllByRecursion, list_any, nat_lt, nat_tests, or-false, Finding, KeepsOne, finding_of, by_fault, lines_limit, number_of, put, IsOrdered, Written, Kept}
+use Rattle.afdx_config.proofs.Names.{fold-append, common_steps, length-take, map-append, drop-map, take-append-drop, take-append-le, take-take, get_or-map, fold, insert, length-append, ◌≡◌, ℕ, zero, suc, ◌+◌, ◌-◌, ◌<◌, ◌≤◌, List, [], ◌∷◌, ◌++◌, length, take, drop, get_or, map, Bool, true, false, ◌||◌, cond, refl, ap, sym, ◌∙◌, arith, take_all, take-map, length-map, drop_more, fault_number, AllByRecursion, list_any, nat_lt, nat_tests, or-false, Finding, KeepsOne, finding_of, by_fault, lines_limit, number_of, put, IsOrdered, Written, Kept, count_by, sum_by-cons, count_by-le-length, nat_le}
 
 -- what holds of each element of two lists holds of those of both
 pub r_append : {A : Type 0} (P : A → Type 0) (xs ys : List A) → AllByRecursion P xs → AllByRecursion P ys → AllByRecursion P (xs ++ ys)
@@ -11,9 +11,6 @@ r_map P Q (x ∷ xs) step each = (step x each.0, r_map P Q xs step each.1)
 
 r_take : {A : Type 0} (P : A → Type 0) (k : ℕ) (xs : List A) → AllByRecursion P xs → AllByRecursion P (take k xs)
 r_take P k xs each = grind (arith, nat_tests, common_steps)
-
-r_at : {A : Type 0} (P : A → Type 0) (xs : List A) (i : ℕ) (d : A) → i < length xs → AllByRecursion P xs → P (get_or xs i d)
-r_at P xs i d inside each = grind (arith, nat_tests, common_steps)
 
 -- a finding put among others
 r_put : (P : Finding → Type 0) (ys : List Finding) (x : Finding) → AllByRecursion P ys → P x → AllByRecursion P (put ys x)
@@ -79,38 +76,38 @@ take_put (suc k) (y ∷ ys) x = here (nat_lt (number_of x) (number_of y)) (take_
     here true rest = ap (λ s. x ∷ s) (take-take k (suc k) (y ∷ ys) (omega arith))
     here false rest = ap (λ s. y ∷ s) rest
 
--- after findings of no greater faults
-put_after : (ys zs : List Finding) (x : Finding) → AllByRecursion (λ y. number_of y ≤ number_of x) ys → put (ys ++ zs) x ≡ ys ++ put zs x
-put_after [] zs x each = refl
-put_after (y ∷ ys) zs x each = grind (arith, nat_tests, (put_after ys zs x each.1))
+-- the index of a finding among the kept ones
+abbrev pub index_in : Kept → Finding → ℕ
+index_in found x = count_by (λ w. nat_le (fault_number w.fault) (number_of x)) found.first.items
 
--- the findings up to one
-up_to : (ys : List Finding) (i m : ℕ) (d : Finding) → IsOrdered ys → i < length ys → number_of (get_or ys i d) ≤ m
-    → AllByRecursion (λ y. number_of y ≤ m) (take (suc i) ys)
-up_to [] i m d ordered inside below = tt
-up_to (y ∷ ys) zero m d ordered inside below = (below, tt)
-up_to (y ∷ ys) (suc i) m d ordered inside below = grind (arith, nat_tests, r_at, (up_to ys i m d ordered.1 (omega arith) below))
+-- of findings with greater faults none is counted
+none_before : (first : List Written) (m : ℕ) → AllByRecursion (λ y. m < number_of y) (map finding_of first)
+    → count_by (λ w. nat_le (fault_number w.fault) m) first ≡ 0
+none_before [] m each = refl
+none_before (w ∷ ws) m each =
+    let step = sum_by-cons (λ (y : Written). cond {A = ℕ} (nat_le (fault_number y.fault) m) 1 0) w ws in
+    grind (arith, nat_tests, step, none_before ws m each.1)
 
--- a finding goes to the end of those of no greater faults
-pub index_found : (first : List Written) (i : ℕ) (x : Finding) (d : Written) → 0 < i → i ≤ length first → fault_number (get_or first (i - 1) d).fault ≤ number_of x
-    → put (drop i (map finding_of first)) x ≡ x ∷ drop i (map finding_of first) → IsOrdered (map finding_of first)
-    → insert (map finding_of first) (i - 1 + 1) x ≡ put (map finding_of first) x
-index_found first i x d some within below rest ordered =
-    let ys = map finding_of first in
-    let back : i - 1 + 1 ≡ i = omega arith in
-    let next : suc (i - 1) ≡ i = omega arith in
-    let inside : i - 1 < length ys = rw (length-map first finding_of) (omega arith) in
-    let here : number_of (get_or ys (i - 1) (finding_of d)) ≤ number_of x = rw (get_or-map finding_of first (i - 1) d) below in
-    let front = rw next at (up_to ys (i - 1) (number_of x) (finding_of d) ordered inside here) in
-    rw back (sym (ap (λ s. put s x) (sym (take-append-drop i ys)) ∙ put_after (take i ys) (drop i ys) x front ∙ ap (λ s. take i ys ++ s) rest))
+-- a finding goes after those of no greater faults
+placed : (first : List Written) (x : Finding) → IsOrdered (map finding_of first)
+    → insert (map finding_of first) (count_by (λ w. nat_le (fault_number w.fault) (number_of x)) first) x ≡ put (map finding_of first) x
+placed [] x ordered = refl
+placed (w ∷ ws) x ordered = here (placed ws x ordered.1) (nat_le (fault_number w.fault) (number_of x)) refl
+  where
+    counted : ℕ
+    counted = count_by (λ w. nat_le (fault_number w.fault) (number_of x)) ws
 
-pub before_one : (first : List Written) (i : ℕ) (x : Finding) (d : Written) → i < length first → number_of x < fault_number (get_or first i d).fault
-    → put (drop i (map finding_of first)) x ≡ x ∷ drop i (map finding_of first)
-before_one first i x d inside less =
-    let ys = map finding_of first in
-    let within : i < length ys = rw (length-map first finding_of) inside in
-    let test : nat_lt (number_of x) (fault_number (get_or first i d).fault) ≡ true = grind (arith, nat_tests) in
-    rw (drop_more ys i (finding_of d) within, get_or-map finding_of first i d, test) refl
+    here : insert (map finding_of ws) counted x ≡ put (map finding_of ws) x → (b : Bool) → nat_le (fault_number w.fault) (number_of x) ≡ b
+        → insert (map finding_of (w ∷ ws)) (count_by (λ w. nat_le (fault_number w.fault) (number_of x)) (w ∷ ws)) x ≡ put (map finding_of (w ∷ ws)) x
+    here rest true below =
+        let after : nat_lt (number_of x) (fault_number w.fault) ≡ false = grind (arith, nat_tests) in
+        let next : 1 + counted ≡ suc counted = omega arith in
+        rw (sum_by-cons _ w ws, below, after, next) (ap (λ ys. finding_of w ∷ ys) rest)
+    here rest false above =
+        let before : nat_lt (number_of x) (fault_number w.fault) ≡ true = grind (arith, nat_tests) in
+        let less : number_of x < fault_number w.fault = grind (arith, nat_tests) in
+        let none : counted ≡ 0 = none_before ws (number_of x) (r_map _ _ _ (λ y more. omega arith) ordered.0) in
+        rw (sum_by-cons _ w ws, above, before, none) refl
 
 -- a finding that was written among others
 pub map_insert : (first : List Written) (i : ℕ) (x : Written)
@@ -119,28 +116,27 @@ map_insert first i x = sym (take-map finding_of lines_limit (insert first i x)) 
     ∙ rw (take-map finding_of i first, drop-map finding_of i first) refl)
 
 -- one finding, which is kept if it is among the first
-pub adds_put : (old new : Kept) (x : Finding) (index : ℕ) → new.count ≡ old.count + 1
-    → (IsOrdered (map finding_of old.first.items) → insert (map finding_of old.first.items) index x ≡ put (map finding_of old.first.items) x)
+pub adds_put : (old new : Kept) (x : Finding) (index : ℕ) → new.count ≡ old.count + 1 → index ≡ index_in old x
     → map finding_of new.first.items ≡ take lines_limit (insert (map finding_of old.first.items) index x) → KeepsOne old new x
-adds_put old new x index counted placed kept all holds =
+adds_put old new x index counted at kept all holds =
     let size = holds.count_is in
     let more : length (all ++ x ∷ []) ≡ length all + 1 = length-append all (x ∷ []) in
     let ordered : IsOrdered (map finding_of old.first.items) = rw holds.first_are (take_ordered lines_limit (by_fault all) (are_ordered all)) in
     record {
-      first_are = kept ∙ ap (take lines_limit) (placed ordered ∙ ap (λ ys. put ys x) holds.first_are)
+      first_are = kept ∙ ap (take lines_limit) (rw at (placed old.first.items x ordered) ∙ ap (λ ys. put ys x) holds.first_are)
           ∙ take_put lines_limit (by_fault all) x ∙ ap (take lines_limit) (sym (fold-append put [] all (x ∷ [])));
       count_is = omega arith;
     }
 
 -- one finding past the first ones
-pub adds_past : (old new : Kept) (x : Finding) (index : ℕ) → new.count ≡ old.count + 1
-    → (IsOrdered (map finding_of old.first.items) → insert (map finding_of old.first.items) index x ≡ put (map finding_of old.first.items) x)
-    → lines_limit ≤ index → index ≤ length (map finding_of old.first.items) → new.first ≡ old.first → KeepsOne old new x
-adds_past old new x index counted placed past within same all holds =
+pub adds_past : (old new : Kept) (x : Finding) (index : ℕ) → new.count ≡ old.count + 1 → index ≡ index_in old x
+    → lines_limit ≤ index → new.first ≡ old.first → KeepsOne old new x
+adds_past old new x index counted at past same all holds =
     let ys = map finding_of old.first.items in
     let most : length ys ≤ lines_limit = let is = holds.first_are in let size = length-take lines_limit (by_fault all) in rw is (omega arith) in
-    adds_put old new x index counted placed (ap (λ v. map finding_of v.items) same ∙ sym (all_kept ys most past within)) all holds
+    let within : index ≤ length ys = rw (at, length-map old.first.items finding_of) (count_by-le-length _ old.first.items) in
+    adds_put old new x index counted at (ap (λ v. map finding_of v.items) same ∙ sym (all_kept ys most within)) all holds
   where
-    all_kept : (ys : List Finding) → length ys ≤ lines_limit → lines_limit ≤ index → index ≤ length ys → take lines_limit (insert ys index x) ≡ ys
-    all_kept ys most past within = rw (take_all index ys (omega arith)) (take-append-le lines_limit ys (x ∷ drop index ys) (omega arith)
+    all_kept : (ys : List Finding) → length ys ≤ lines_limit → index ≤ length ys → take lines_limit (insert ys index x) ≡ ys
+    all_kept ys most within = rw (take_all index ys (omega arith)) (take-append-le lines_limit ys (x ∷ drop index ys) (omega arith)
         ∙ take_all lines_limit ys (omega arith))

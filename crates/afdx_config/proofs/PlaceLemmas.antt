@@ -1,14 +1,8 @@
 -- The place of each finding has its fault.
-use Rattle.afdx_config.proofs.Names.{◌≡◌, ℕ, suc, ◌+◌, ◌-◌, List, [], ◌∷◌, get_or, Bool, nat_lt, false, true, ◌||◌, Option, Some, None, refl, ap, ◌∙◌, codes, arith, bytes_eq, slice_get, position, list_any, flat_map, AllByRecursion, option_map_or, or-true, All-from_recursion, position-Some, slice_get-get_or, bytes_eq-Decides, eq-eqb, Members, ConfigFault, Place, Top, option_map, is_row_of, PlanRule, Rule, links_clash, ports_clash, port_misfits, link_count, port_count, sub_is_packed, breaks, is_misfit, breaks_at, tells, plan_rules, rule, rule_findings, is_past_limit, EndSystem, Link, Port, Finding, found, one_if, key_finding, each_row, member_keys, pair_finding, pair_findings, misfit_finding, crowd_finding, Cells, cells_of, findings, row_has, rows_have, value_has, key_has, has_place, PlacesHaveFaults, Field, document_fields, end_fields, link_fields, port_fields, field_fault, key_fault, is_fault, is_version_2, rows_at, section_at, members_at, fields_at, fault_number, nat_tests}
-use Rattle.afdx_config.proofs.AddLemmas.{each_row-map}
+use Rattle.afdx_config.proofs.Names.{◌≡◌, ℕ, suc, ◌+◌, ◌-◌, List, [], ◌∷◌, get_or, Bool, nat_lt, false, true, ◌||◌, ◌&&◌, Option, Some, None, refl, ap, ◌∙◌, codes, arith, bytes_eq, slice_get, position, list_any, flat_map, AllByRecursion, option_map_or, or-true, All-from_recursion, position-Some, slice_get-get_or, bytes_eq-Decides, eq-eqb, Members, ConfigFault, Place, Top, option_map, is_row_of, PlanRule, Rule, links_clash, ports_clash, port_misfits, link_count, port_count, sub_is_packed, breaks, is_misfit, breaks_at, tells, plan_rules, rule, rule_findings, is_past_limit, EndSystem, Link, Port, Finding, found, one_if, key_finding, each_row, member_keys, pair_finding, pair_findings, misfit_finding, crowd_finding, Cells, cells_of, findings, row_has, rows_have, value_has, key_has, has_place, PlacesHaveFaults, Field, document_fields, end_fields, link_fields, port_fields, field_fault, key_fault, is_fault, is_version_2, rows_at, section_at, members_at, fields_at, fault_number, nat_tests}
 use Rattle.afdx_config.proofs.OnceLemmas.{r_once}
 use Rattle.afdx_config.proofs.OrderLemmas.{r_append, r_fold, r_map}
 use Rattle.afdx_config.specs.Findings.{plan_findings, table_findings, value_findings}
-
--- a property of each element of the lists
-pub r_each : {A B : Type 0} (P : B → Type 0) (F : A → List B) (xs : List A) → ((x : A) → AllByRecursion P (F x)) → AllByRecursion P (flat_map F xs)
-r_each P F [] step = tt
-r_each P F (x ∷ xs) step = r_append P (F x) (flat_map F xs) (step x) (r_each P F xs step)
 
 -- a property of a conditional finding
 r_one : (P : Finding → Type 0) (b : Bool) (x : Finding) → (b ≡ true → P x) → AllByRecursion P (one_if b x)
@@ -19,11 +13,18 @@ bytes_same : (k : List ℕ) → bytes_eq k k ≡ true
 bytes_same k = (bytes_eq-Decides k k).1 refl
 
 -- a test that passes in the rest passes in the whole list
-abbrev Sub : {A : Type 0} → List A → List A → Type 0
+abbrev pub Sub : {A : Type 0} → List A → List A → Type 0
 Sub {A} rest all = (q : A → Bool) → list_any q rest ≡ true → list_any q all ≡ true
 
 sub_next : {A : Type 0} (x : A) (rest all : List A) → Sub (x ∷ rest) all → Sub rest all
 sub_next x rest all sub q passes = sub q (rw passes (or-true (q x)))
+
+-- a property of the elements of lists, each made of an element of a list
+pub r_each : {A B : Type 0} (P : B → Type 0) (F : A → List B) (all rest : List A) → Sub rest all
+    → ((x : A) → ((q : A → Bool) → q x ≡ true → list_any q all ≡ true) → AllByRecursion P (F x)) → AllByRecursion P (flat_map F rest)
+r_each P F all [] sub step = tt
+r_each P F all (x ∷ xs) sub step = r_append P (F x) (flat_map F xs) (step x (λ q passes. sub q (rw passes refl)))
+    (r_each P F all xs (sub_next x xs all sub) step)
 
 -- a property of the findings of each row
 rows_have_it : {A : Type 0} (P : Finding → Type 0) (each : ℕ → A → List Finding) (k : ℕ) (rows : List A)
@@ -71,32 +72,17 @@ r_key P place key o step = grind (arith, nat_tests)
 number_is : (g : ConfigFault) → is_fault g (Some g) ≡ true
 number_is g = eq-eqb (fault_number g) (fault_number g) refl
 
-fields_fine : (doc : Members) (place : Place) (fields : List Field) (members : Members) (rest : List Field) → At doc place fields members
-    → Sub rest fields → AllByRecursion (Fine doc) (flat_map (λ field. key_finding place field.key (field_fault members field)) rest)
-fields_fine doc place fields members [] at sub = tt
-fields_fine doc place fields members (x ∷ rest) at sub =
-    grind (arith, nat_tests, bytes_same, number_is, r_append, r_key, sub_next, (fields_fine doc place fields members rest at (sub_next x rest fields sub)))
-
-keys_fine : (doc : Members) (place : Place) (fields : List Field) (members : Members) (rest : List (List ℕ)) → At doc place fields members
-    → Sub rest (member_keys members) → AllByRecursion (Fine doc) (flat_map (λ key. key_finding place key (key_fault fields key)) rest)
-keys_fine doc place fields members [] at sub = tt
-keys_fine doc place fields members (x ∷ rest) at sub = grind (
-  arith,
-  nat_tests,
-  bytes_same,
-  or-true,
-  r_append,
-  r_key,
-  sub_next,
-  (keys_fine doc place fields members rest at (sub_next x rest (member_keys members) sub)),
-)
-
 table_fine : (doc : Members) (place : Place) (fields : List Field) (members : Members) → At doc place fields members
     → AllByRecursion (Fine doc) (table_findings place fields members)
 unfolding table_findings
 table_fine doc place fields members at = r_append (Fine doc) _ _
-    (fields_fine doc place fields members fields at (λ q passes. passes))
-    (keys_fine doc place fields members (member_keys members) at (λ q passes. passes))
+    (r_each (Fine doc) (λ field. key_finding place field.key (field_fault members field)) fields fields (λ q passes. passes)
+    (λ field inside. r_key (Fine doc) place field.key (field_fault members field) (λ g is.
+    let here = inside (λ other. bytes_eq field.key other.key && is_fault g (field_fault members other)) (rw (bytes_same field.key, is, number_is g) refl) in
+    rw (at.0, at.1, here) refl)))
+    (r_each (Fine doc) (λ key. key_finding place key (key_fault fields key)) (member_keys members) (member_keys members) (λ q passes. passes)
+    (λ key inside. r_key (Fine doc) place key (key_fault fields key) (λ g is.
+    let here = inside (bytes_eq key) (bytes_same key) in grind (arith, nat_tests, or-true))))
 
 -- a finding of a rule whose place breaks it
 abbrev Broken : Cells → PlanRule → Finding → Type 0
@@ -115,9 +101,9 @@ row_passes test rows k x is passes = rw is passes
 pair_fine : {A : Type 0} (cells : Cells) (r : PlanRule) (at : ℕ → Place) (related : A → A → Bool) (all : List A)
     → ((k j : ℕ) → rows_have related all k (Some j) ≡ true → breaks_at r.forbids cells (at k) (Some j) ≡ true)
     → AllByRecursion (Broken cells r) (pair_findings r.fault r.key at related all)
-pair_fine {A = A} cells r at related all fine = rw (each_row-map (pair_finding r.fault r.key at) (λ x. position (λ e. related e x) all) 1 all)
-    (all_rows (Broken cells r) (λ k x. pair_finding r.fault r.key at k (position (λ e. related e x) all)) all
-    (λ k x is. here k x is (position (λ e. related e x) all) refl))
+pair_fine {A = A} cells r at related all fine =
+    all_rows (Broken cells r) (λ k x. pair_finding r.fault r.key at k (position (λ e. related e x) all)) all
+    (λ k x is. here k x is (position (λ e. related e x) all) refl)
   where
     here : (k : ℕ) (x : A) → slice_get all (k - 1) ≡ Some x → (o : Option ℕ) → position (λ e. related e x) all ≡ o
         → AllByRecursion (Broken cells r) (pair_finding r.fault r.key at k o)
@@ -151,16 +137,10 @@ rule_fine cells f key sub_is_packed = all_rows (Broken cells (rule f key sub_is_
 abbrev pub Has : Cells → Finding → Type 0
 Has cells f = list_any (tells cells f) plan_rules ≡ true
 
-rules_fine : (cells : Cells) (rest : List PlanRule) → Sub rest plan_rules
-    → AllByRecursion (Has cells) (flat_map (λ (r : PlanRule). rule_findings r.fault r.key r.forbids cells) rest)
-rules_fine cells [] sub = tt
-rules_fine cells (r ∷ rest) sub = r_append (Has cells) (rule_findings r.fault r.key r.forbids cells) _
-    (r_map (Broken cells r) (Has cells) _ (λ f is. sub (tells cells f) (rw is refl)) (rule_fine cells r.fault r.key r.forbids))
-    (rules_fine cells rest (sub_next r rest plan_rules sub))
-
 pub plan_fine : (cells : Cells) → AllByRecursion (Has cells) (plan_findings cells)
 unfolding plan_findings
-plan_fine cells = rules_fine cells plan_rules (λ q passes. passes)
+plan_fine cells = r_each (Has cells) (λ (r : PlanRule). rule_findings r.fault r.key r.forbids cells) plan_rules plan_rules (λ q passes. passes)
+    (λ r inside. r_map (Broken cells r) (Has cells) _ (λ f is. inside (tells cells f) is) (rule_fine cells r.fault r.key r.forbids))
 
 pub places_have_faults : PlacesHaveFaults
 places_have_faults doc = All-from_recursion (λ f. has_place doc f ≡ true) (findings doc)

@@ -76,13 +76,13 @@ found_from p q v at i (e ∷ rest) = here (address_of e) refl (found_from p q v 
     here o is more = rw (sharing_key e.vl p.vl e.partition p.partition e.unicast p.unicast, is, at) (with_key o more)
 
 pub sharing : (ports : List PortRow) (first : ℕ × List ℕ → Option (ℕ × ℕ × Option ℕ)) → ((q : ℕ × List ℕ) → first q ≡ first_at q 0 ports)
-    → map (sharing_place first) ports ≡ map (λ p. position (λ e. share_unicast e p) ports) ports
-sharing ports first is = ap (λ f. map f ports) (fun_ext (λ p. here p (address_of p) refl))
+    → (p : PortRow) → sharing_place first p ≡ position (λ e. share_unicast e p) ports
+sharing ports first is p = here (address_of p) refl
   where
-    here : (p : PortRow) (o : Option ((ℕ × List ℕ) × ℕ)) → address_of p ≡ o → sharing_place first p ≡ position (λ e. share_unicast e p) ports
-    here p None at = rw at (sym (position_none (λ e. share_unicast e p) ports
+    here : (o : Option ((ℕ × List ℕ) × ℕ)) → address_of p ≡ o → sharing_place first p ≡ position (λ e. share_unicast e p) ports
+    here None at = rw at (sym (position_none (λ e. share_unicast e p) ports
         (λ e. sharing_key e.vl p.vl e.partition p.partition e.unicast p.unicast ∙ rw at (share_none (address_of e)))))
-    here p (Some (q, v)) at = rw (at, is q) (sym (position_from-zero (λ e. share_unicast e p) ports ∙ found_from p q v at 0 ports))
+    here (Some (q, v)) at = rw (at, is q) (sym (position_from-zero (λ e. share_unicast e p) ports ∙ found_from p q v at 0 ports))
 
 -- a port on no known sub-VL
 no_sub : (v u a b : Option ℕ) → (both nat_eq v v && both nat_eq u u) ≡ false → (both nat_eq a v && both nat_eq b u) ≡ false

@@ -1,7 +1,6 @@
 -- A document has a fault exactly if some finding has it.
 use Rattle.afdx_config.proofs.Names.{length-append, ◌≡◌, ℕ, ◌+◌, ◌<◌, ◌≤◌, List, [], ◌∷◌, ◌++◌, length, Bool, true, false, ◌||◌, ◌&&◌, append_assoc, lit≤, Option, Some, None, refl, ap, sym, ◌∙◌, arith, ◌==◌, nat_tests, or-false, and-true, and-false, and-or_distrib_left, nat_lt, list_any-append, position, position_from, list_any, then_some, position_from-zero, AllByRecursion, not, Data, Members, get_member, fault_number, has_pair, ConfigFault, Toml, UnknownKey, Place, Top, Link, Port, Field, flat_map, PlanRule, Rule, links_clash, ports_clash, port_misfits, link_count, port_count, sub_is_packed, breaks, is_misfit, plan_rules, rule_findings, shows, values_show, Finding, found, has, one_if, key_finding, member_keys, each_row, pair_finding, pair_findings, is_past_limit, misfit_finding, crowd_finding, Cells, cells_show, any_row, field_fault, key_fault, is_key_of, IfSome, Content, Result, content_fault, FaultsAreFound, result_err, read, value_findings}
 use Rattle.afdx_config.specs.Findings.{plan_findings, table_findings}
-use Rattle.afdx_config.proofs.AddLemmas.{each_row-map}
 use Rattle.afdx_config.proofs.OnceLemmas.{any_once}
 use Rattle.afdx_config.proofs.OrderLemmas.{any_by_fault, r_append, r_map}
 use Rattle.afdx_config.proofs.PlaceLemmas.{r_each, values_have}
@@ -81,8 +80,7 @@ any_pair related all before (x ∷ xs) k is at =
 pairs_shown : {A : Type 0} (f g : ConfigFault) (key : List ℕ) (at : ℕ → Place) (related : A → A → Bool) (rows : List A)
     → list_any (has f) (pair_findings g key at related rows) ≡ (same f g && has_pair related rows)
 pairs_shown f g key at related rows =
-    ap (list_any (has f)) (each_row-map (pair_finding g key at) (λ x. position (λ e. related e x) rows) 1 rows)
-    ∙ rows_shown f g (λ k x. pair_finding g key at k (position (λ e. related e x) rows)) (λ k x. is_before k (position (λ e. related e x) rows)) 1 rows
+    rows_shown f g (λ k x. pair_finding g key at k (position (λ e. related e x) rows)) (λ k x. is_before k (position (λ e. related e x) rows)) 1 rows
     (λ k x. pair f g key at k (position (λ e. related e x) rows))
     ∙ ap (λ b. same f g && b) (any_pair related rows [] rows 1 refl refl ∙ ap (λ b. b || has_pair related rows) (any_no rows))
 
@@ -135,10 +133,10 @@ key_in place key o is = grind (arith, nat_tests)
 table_in : (place : Place) (fields : List Field) (members : Members) → AllByRecursion (λ x. IsValue x.fault) (table_findings place fields members)
 unfolding table_findings
 table_in place fields members = r_append (λ x. IsValue x.fault) _ _
-    (r_each _ (λ field. key_finding place field.key (field_fault members field)) fields
-    (λ field. key_in place field.key _ (under_in field.content (get_member field.key members))))
-    (r_each _ (λ key. key_finding place key (key_fault fields key)) (member_keys members)
-    (λ key. key_in place key _ (one_in (not (is_key_of fields key)) UnknownKey (lit≤ tt))))
+    (r_each _ (λ field. key_finding place field.key (field_fault members field)) fields fields (λ q passes. passes)
+    (λ field _. key_in place field.key _ (under_in field.content (get_member field.key members))))
+    (r_each _ (λ key. key_finding place key (key_fault fields key)) (member_keys members) (member_keys members) (λ q passes. passes)
+    (λ key _. key_in place key _ (one_in (not (is_key_of fields key)) UnknownKey (lit≤ tt))))
 
 values_in : (doc : Members) → AllByRecursion (λ x. IsValue x.fault) (value_findings doc)
 values_in doc = values_have (λ x. IsValue x.fault) doc (λ place fields members at. table_in place fields members)

@@ -1,5 +1,5 @@
 -- All faults of a document, each with its place.
-use Rattle.std.specs.Prelude.{codes, ℕ, ◌+◌, List, [], ◌∷◌, ◌++◌, map, nat_lt, bytes_eq, Bool, true, false, ◌==◌, ◌&&◌, ◌||◌, if◌then◌else◌, Option, Some, None, option_map}
+use Rattle.std.specs.Prelude.{codes, ℕ, ◌+◌, List, [], ◌∷◌, ◌++◌, nat_lt, bytes_eq, Bool, true, false, ◌==◌, ◌&&◌, ◌||◌, if◌then◌else◌, Option, Some, None, option_map}
 use Rattle.std.specs.List.{position, flat_map, fold}
 use Rattle.std.specs.Option.{option_map_or}
 use Rattle.toml.specs.Data.{Members}
@@ -80,7 +80,7 @@ pair_finding fault key at k (Some i) = one_if (nat_lt (i + 1) k) (found fault (a
 -- the findings of the rows that clash with an earlier one, each with the first such row
 abbrev pub pair_findings : {A : Type 0} → ConfigFault → List ℕ → (ℕ → Place) → (A → A → Bool) → List A → List Finding
 pair_findings fault key at clash rows =
-    each_row (pair_finding fault key at) 1 (map (λ row. position (λ earlier. clash earlier row) rows) rows)
+    each_row (λ k row. pair_finding fault key at k (position (λ earlier. clash earlier row) rows)) 1 rows
 
 -- the finding of port k that names the number of its link, if it does not fit that link
 abbrev pub misfit_finding : ConfigFault → List ℕ → Misfit → Cells → ℕ → PortRow → List Finding

@@ -43,10 +43,6 @@ udp_range = (1, 65535)
 abbrev pub max_range : ℕ × ℕ
 max_range = (1, 8192)
 
--- the version of the format
-abbrev pub version_range : ℕ × ℕ
-version_range = (1, 2)
-
 -- the top level of the text
 abbrev pub document_fields : List Field
 document_fields = field (codes "version") Version

@@ -1,8 +1,7 @@
 //! Faults of a plan with their places.
-ghost use Rattle.std.specs.Prelude.{◌≡◌, ◌∷◌, ◌≤◌, [], length, map, OnOk};
-ghost use Rattle.std.specs.List.{insert};
-ghost use Rattle.afdx_config.specs.Findings.{found as finding_at, Finding as Told, is_newer as is_newer_finding, one_if, put, row_like};
-ghost use Rattle.afdx_config.specs.Seen.{Adds, Holds, IsOrdered, KeepsOne, finding_of};
+ghost use Rattle.std.specs.Prelude.{◌≡◌, ◌∷◌, [], count_by, nat_le, OnOk};
+ghost use Rattle.afdx_config.specs.Findings.{found as finding_at, is_newer as is_newer_finding, one_if, row_like};
+ghost use Rattle.afdx_config.specs.Seen.{Adds, Holds, KeepsOne};
 ghost use Rattle.std.specs.Prelude.{None};
 ghost use Rattle.afdx_plan.specs.PlanFaults.{fault_number};
 
@@ -78,19 +77,15 @@ impl Found {
 /// The result of an addition.
 pub(crate) type Added = Result<(), AllocError>;
 
-/// Returns the index after the last finding whose fault has no greater number than `fault`.
-#[tactic(auto, using(std::proofs::lemmas::Grind::common_steps, crate::proofs::OrderLemmas::index_found, crate::proofs::OrderLemmas::before_one))]
+/// Returns the number of the findings whose faults have no greater number than `fault`.
 fn index_of(first: &[Finding], fault: ConfigFault) -> usize
-    ensures within { result ≤ length first.now }
-    ensures put { (x : Told) → x.fault ≡ fault → IsOrdered (map finding_of first.now) →
-        insert (map finding_of first.now) result x ≡ put (map finding_of first.now) x }
+    ensures { result ≡ count_by (λ f. nat_le (fault_number f.fault) (fault_number fault)) first.now }
 {
-    for i in (0..first.len()).rev() {
-        if first[i].fault.number() <= fault.number() {
-            return i + 1;
-        }
-    }
-    0
+    let number = fault.number();
+    first
+        .iter()
+        .filter(|other| other.fault.number() <= number)
+        .count()
 }
 
 /// Returns whether a key that only version 2 has is unknown, as the text isn't one of version 2.

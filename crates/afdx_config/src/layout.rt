@@ -1,6 +1,6 @@
 //! The lines at which the tables and keys of a text begin. They are known of a text in the usual form: each header and
 //! each key begins a line, and each value ends on its line. From the first line of another form on, none is known.
-use crate::findings::{Finding, Place};
+use crate::findings::{Place, Finding};
 use std::alloc::{AllocError, Global};
 use std::collections::BTreeMap;
 use std::str;
@@ -21,7 +21,7 @@ const OTHER: TableName = (4, 0);
 /// A table and a key in it. The header of the table has no key.
 type Spot<'a> = (TableName, &'a str);
 
-/// The lines of spots, from 1; 0 of a spot that wasn't found.
+/// The first line of each spot, from 1.
 type Lines<'a> = BTreeMap<Spot<'a>, usize>;
 
 /// The beginning of a line.
@@ -91,13 +91,12 @@ fn start_of(line: &str) -> Start<'_> {
     start.unwrap_or(Start::Unusual)
 }
 
-/// Keeps the first line of a spot, if that is looked for.
-fn keep<'a>(lines: &mut Lines<'a>, spot: Spot<'a>, line: usize) {
-    if let Some(kept) = lines.get_mut(&spot) {
-        if *kept == 0 {
-            *kept = line;
-        }
+/// Keeps the line of a spot, if it is the first one.
+fn keep<'a>(lines: &mut Lines<'a>, spot: Spot<'a>, line: usize) -> Result<(), AllocError> {
+    if lines.get(&spot).is_none() {
+        lines.insert(spot, line)?;
     }
+    Ok(())
 }
 
 /// The numbers of tables of links and of ports that have begun.
@@ -123,29 +122,32 @@ fn table_of(begun: &mut Begun, name: &str, is_row: bool) -> TableName {
     }
 }
 
-/// Looks for spots in a text.
-fn search<'a>(lines: &mut Lines<'a>, text: &'a str) {
+/// Returns the lines of the spots of a text, up to its first line of another form.
+fn lines_of(alloc: Global, text: &[u8]) -> Result<Lines<'_>, AllocError> {
+    let mut lines = BTreeMap::new(alloc);
     let mut begun = Begun { links: 0, ports: 0 };
     let mut table = TOP;
+    let text = str::from_utf8(text).unwrap_or("");
     let text = text.strip_prefix("\u{feff}").unwrap_or(text);
     for (k, line) in text.split('\n').enumerate() {
         let line_number = k.saturating_add(1);
         match start_of(line) {
             Start::Nothing => {}
             Start::Header(name, is_row) => {
-                keep(lines, (TOP, name), line_number);
+                keep(&mut lines, (TOP, name), line_number)?;
                 table = table_of(&mut begun, name, is_row);
-                keep(lines, (table, ""), line_number);
+                keep(&mut lines, (table, ""), line_number)?;
             }
             Start::Key(key, is_whole) => {
-                keep(lines, (table, key), line_number);
+                keep(&mut lines, (table, key), line_number)?;
                 if !is_whole {
-                    return;
+                    break;
                 }
             }
-            Start::Unusual => return,
+            Start::Unusual => break,
         }
     }
+    Ok(lines)
 }
 
 /// Returns the table of a place.
@@ -170,23 +172,14 @@ fn line_of<'a>(lines: &Lines<'a>, finding: &'a Finding) -> Option<usize> {
 /// Returns the line of a key of a table, or else of the table's header.
 fn line_at<'a>(lines: &Lines<'a>, table: TableName, key: &'a str) -> Option<usize> {
     let of_key = lines.get(&(table, key)).copied();
-    let of_table = lines.get(&(table, "")).copied();
-    [of_key, of_table]
-        .into_iter()
-        .flatten()
-        .find(|line| *line != 0)
+    of_key.or(lines.get(&(table, "")).copied())
 }
 
 /// Returns the line of the `id` of the table at a place in a text, or else of its header, from 1; `None` if it isn't
 /// known. Fails only if an allocation fails.
 pub fn id_line(alloc: Global, text: &[u8], place: Place) -> Result<Option<usize>, AllocError> {
-    let (table, mut lines) = (table_at(place), BTreeMap::new(alloc));
-    lines.insert((table, "id"), 0)?;
-    lines.insert((table, ""), 0)?;
-    if let Ok(text) = str::from_utf8(text) {
-        search(&mut lines, text);
-    }
-    Ok(line_at(&lines, table, "id"))
+    let lines = lines_of(alloc, text)?;
+    Ok(line_at(&lines, table_at(place), "id"))
 }
 
 /// Returns the line of each finding, from 1, if it is known.
@@ -195,15 +188,7 @@ pub(crate) fn lines_of_findings<'a>(
     text: &'a [u8],
     findings: &'a [Finding],
 ) -> Result<Vec<Option<usize>>, AllocError> {
-    let mut lines = BTreeMap::new(alloc);
-    for finding in findings {
-        let table = table_at(finding.place);
-        lines.insert((table, finding.key.as_str()), 0)?;
-        lines.insert((table, ""), 0)?;
-    }
-    if let Ok(text) = str::from_utf8(text) {
-        search(&mut lines, text);
-    }
+    let lines = lines_of(alloc, text)?;
     let mut found = Vec::new(alloc);
     for finding in findings {
         found.push(line_of(&lines, finding))?;

@@ -43,21 +43,6 @@ pub(crate) fn nth_row<R: Copy>(rows: &[R], place: Option<usize>) -> Option<&R>
     rows.get(place?)
 }
 
-/// Returns for each row the index of the first one with its key.
-fn first_same<K: Ord + Copy>(
-    alloc: Global,
-    keys: &[Option<K>],
-) -> Result<Vec<Option<usize>>, AllocError>
-    ensures { IfOk result (λ places. places.items ≡ map (first_row K.cmp keys.now) keys.now) }
-{
-    let rows = first_rows(alloc, keys)?;
-    let mut places = Vec::new(alloc);
-    for key in keys {
-        places.push(row_with(&rows, key))?;
-    }
-    Ok(places)
-}
-
 /// Link, partition, both UDP ports and destination.
 type Flow = (u16, u16, u16, u16, Option<[u8; 4]>);
 
@@ -82,23 +67,6 @@ fn add_pair(
     }
 }
 
-/// Adds the tables of an array that clash with an earlier one.
-fn add_pairs(
-    found: &mut Found,
-    fault: ConfigFault,
-    key: &str,
-    array: Place,
-    firsts: &[Option<usize>],
-) -> Added
-    ensures { OnOk result (Adds found.old found.new
-        (each_row (pair_finding fault key.now (row_like array)) 1 firsts.now)) }
-{
-    for (i, first) in firsts.iter().enumerate() {
-        add_pair(found, fault, key, array, i, *first)?;
-    }
-    Ok(())
-}
-
 /// Adds the tables of an array that have the key of an earlier one.
 pub(crate) fn add_keyed<K: Ord + Copy>(
     found: &mut Found,
@@ -108,10 +76,13 @@ pub(crate) fn add_keyed<K: Ord + Copy>(
     keys: &[Option<K>],
 ) -> Added
     ensures { OnOk result (Adds found.old found.new
-        (each_row (pair_finding fault key.now (row_like array)) 1 (map (first_row K.cmp keys.now) keys.now))) }
+        (each_row (λ k own. pair_finding fault key.now (row_like array) k (first_row K.cmp keys.now own)) 1 keys.now)) }
 {
-    let firsts = first_same(found.alloc(), keys)?;
-    add_pairs(found, fault, key, array, firsts.as_slice())
+    let rows = first_rows(found.alloc(), keys)?;
+    for (i, own) in keys.iter().enumerate() {
+        add_pair(found, fault, key, array, i, row_with(&rows, own))?;
+    }
+    Ok(())
 }
 
 /// Returns the identifiers of links.
@@ -192,20 +163,6 @@ fn sharing_place(firsts: &BTreeMap<Address, First>, port: &PortRow) -> Option<us
     off_link(vl, firsts.get(&address).copied())
 }
 
-/// Returns for each port the first one on another link with its partition and unicast address.
-fn sharing_places(
-    alloc: Global,
-    firsts: &BTreeMap<Address, First>,
-    ports: &[PortRow],
-) -> Result<Vec<Option<usize>>, AllocError>
-    ensures { IfOk result (λ places. places.items ≡ map (sharing_place (get address_cmp firsts.now)) ports.now) }
-{
-    ports
-        .iter()
-        .map(|port| sharing_place(firsts, port))
-        .collect(alloc)
-}
-
 /// Adds the ports that are on another link than an earlier one with their partition and unicast address.
 pub(crate) fn add_sharing(
     found: &mut Found,
@@ -216,6 +173,9 @@ pub(crate) fn add_sharing(
     ensures { OnOk result (Adds found.old found.new (pair_findings fault key.now Port share_unicast ports.now)) }
 {
     let firsts = first_ports(found.alloc(), ports)?;
-    let places = sharing_places(found.alloc(), &firsts, ports)?;
-    add_pairs(found, fault, key, Place::Port(0), places.as_slice())
+    for (i, port) in ports.iter().enumerate() {
+        let first = sharing_place(&firsts, port);
+        add_pair(found, fault, key, Place::Port(0), i, first)?;
+    }
+    Ok(())
 }

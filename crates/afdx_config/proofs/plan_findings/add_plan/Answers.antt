@@ -1,4 +1,5 @@
-use Rattle.afdx_config.proofs.Names.{on_ok_weaker, nat_cmp, same_link, same_port, same_flow, flow_of}
+use Rattle.afdx_config.proofs.Names.{on_ok_weaker, codes, Link, Port, nat_cmp, same_link, same_port, same_flow, flow_of}
+use Rattle.afdx_plan.specs.declared.fault.ConfigFault.TheVariants.{DuplicateVl, DuplicatePort, SameFlow}
 use Rattle.afdx_config.specs.Findings.{plan_findings}
 use Rattle.afdx_config.proofs.AddLemmas.{adds_both, adds_last}
 use Rattle.afdx_config.proofs.KeyedLemmas.{rows_keyed, same_number}
@@ -10,9 +11,9 @@ unfolding plan_findings
 returns c =
     let links = c.as_slice-links.ensures.value in
     let ports = c.as_slice-ports.ensures.value in
-    let same_links = rows_keyed nat_cmp (λ r. r.id) same_link c.args.rows.now.links.items (λ e r. same_number e.id r.id) in
-    let same_ports = rows_keyed nat_cmp (λ r. r.id) same_port c.args.rows.now.ports.items (λ e r. same_number e.id r.id) in
-    let same_flows = rows_keyed (flow_cmp destination_cmp) flow_of same_flow c.args.rows.now.ports.items same_flows in
+    let same_links = rows_keyed nat_cmp (λ r. r.id) same_link DuplicateVl (codes "id") Link c.args.rows.now.links.items (λ e r. same_number e.id r.id) in
+    let same_ports = rows_keyed nat_cmp (λ r. r.id) same_port DuplicatePort (codes "id") Port c.args.rows.now.ports.items (λ e r. same_number e.id r.id) in
+    let same_flows = rows_keyed (flow_cmp destination_cmp) flow_of same_flow SameFlow (codes "destination") Port c.args.rows.now.ports.items same_flows in
     on_ok_weaker c.add_crowded.result (λ last.
     adds_both _ _ _ _ _ (rw (c.as_slice-link_ids.ensures.value, c.in_ok-link_ids.ensures, links, same_links) at c.in_ok-add_keyed.ensures)
     (adds_both _ _ _ _ _ (rw (c.as_slice.ensures.value, c.in_ok-port_ids.ensures, ports, same_ports) at c.in_ok-add_keyed-2.ensures)
