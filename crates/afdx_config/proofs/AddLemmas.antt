@@ -1,17 +1,17 @@
 -- Findings added one after the other.
-use Rattle.afdx_config.proofs.Names.{flat_map-append, common_steps, take_more, length-take, ◌≡◌, ℕ, ◌+◌, ◌<◌, List, [], ◌∷◌, ◌++◌, length, get_or, refl, ap, sym, map, append_assoc, option_map_or, append-nil, take, arith, Adds, flat_map, flat_map-map, table_view, string_bytes, keys_of, String, Global, LinkRow, PortRow, Bool, cells_of, Place, Link, Port, Top, EndSystem, Field, Finding, key_finding, each_row, field_of, IsDocument, Document, data_of, document_fields, end_fields, link_fields, port_fields, field_fault, key_fault, is_version_2, map-map, BTreeMap, Value, None, Members, ConfigFault, true, false, cond, codes, field_findings, key_findings, section_at, Result, Ok, Key, Kept, link_row, port_row, nat_tests, only_in_2, result_err}
+use Rattle.afdx_config.proofs.Names.{flat_map-append, common_steps, take_more, length-take, ◌≡◌, ℕ, ◌+◌, ◌<◌, List, [], ◌∷◌, ◌++◌, length, get_or, refl, ap, sym, map, append_assoc, option_map_or, append-nil, take, arith, Adds, flat_map, flat_map-map, table_view, string_bytes, keys_of, String, Global, LinkRow, PortRow, Bool, cells_of, Place, Link, Port, Top, EndSystem, Field, PlanFinding, key_finding, each_row, field_of, IsDocument, Document, data_of, document_fields, end_fields, link_fields, port_fields, field_fault, key_fault, is_version_2, map-map, BTreeMap, Value, None, Members, ConfigFault, true, false, cond, codes, field_findings, key_findings, section_at, Result, Ok, Key, Kept, link_row, port_row, nat_tests, only_in_2, result_err}
 use Rattle.afdx_config.specs.Findings.{table_findings, value_findings}
 use Rattle.afdx_config.proofs.SectionLemmas.{Found, keys_are}
 
 -- one after the other
-pub adds_both : (old mid new : Kept) (a b : List Finding) → Adds old mid a → Adds mid new b → Adds old new (a ++ b)
+pub adds_both : (old mid new : Kept) (a b : List PlanFinding) → Adds old mid a → Adds mid new b → Adds old new (a ++ b)
 adds_both old mid new a b p q all holds = rw (← append_assoc all a b) (q (all ++ a) (p all holds))
 
-pub adds_last : (old new : Kept) (a : List Finding) → Adds old new a → Adds old new (a ++ [])
+pub adds_last : (old new : Kept) (a : List PlanFinding) → Adds old new a → Adds old new (a ++ [])
 adds_last old new a p = rw (append-nil a) p
 
 -- the findings of the rows after others
-each_row-append : {A : Type 0} (each : ℕ → A → List Finding) (k : ℕ) (xs ys : List A)
+each_row-append : {A : Type 0} (each : ℕ → A → List PlanFinding) (k : ℕ) (xs ys : List A)
     → each_row each k (xs ++ ys) ≡ each_row each k xs ++ each_row each (k + length xs) ys
 each_row-append each k [] ys = let at : k + 0 ≡ k = omega arith in rw at refl
 each_row-append each k (x ∷ xs) ys = grind (arith, nat_tests, append_assoc, (each_row-append each (k + 1) xs ys))
@@ -32,7 +32,7 @@ no_port = record {
 }
 
 -- adding the findings of one row
-pub row_more : {A : Type 0} (each : ℕ → A → List Finding) (i : ℕ) (rows : List A) (x d : A) (old mid new : Kept)
+pub row_more : {A : Type 0} (each : ℕ → A → List PlanFinding) (i : ℕ) (rows : List A) (x d : A) (old mid new : Kept)
     → i < length rows → x ≡ get_or rows i d → Adds old mid (each_row each 1 (take i rows)) → Adds mid new (each (i + 1) x)
     → Adds old new (each_row each 1 (take (i + 1) rows))
 row_more each i rows x d old mid new inside here before this =
@@ -41,12 +41,12 @@ row_more each i rows x d old mid new inside here before this =
     (adds_both old mid new _ _ before this)
 
 -- adding the findings of one element
-pub each_more : {A : Type 0} (each : A → List Finding) (xs : List A) (x : A) (old mid new : Kept) → Adds old mid (flat_map each xs)
+pub each_more : {A : Type 0} (each : A → List PlanFinding) (xs : List A) (x : A) (old mid new : Kept) → Adds old mid (flat_map each xs)
     → Adds mid new (each x) → Adds old new (flat_map each (xs ++ x ∷ []))
 each_more each xs x old mid new before this = grind (arith, nat_tests, common_steps, adds_both, append-nil, flat_map-append)
 
 -- rows of other rows
-pub each_row-map : {A B : Type 0} (each : ℕ → B → List Finding) (f : A → B) (k : ℕ) (rows : List A)
+pub each_row-map : {A B : Type 0} (each : ℕ → B → List PlanFinding) (f : A → B) (k : ℕ) (rows : List A)
     → each_row each k (map f rows) ≡ each_row (λ j x. each j (f x)) k rows
 each_row-map each f k [] = refl
 each_row-map each f k (x ∷ xs) = ap (λ ys. each k (f x) ++ ys) (each_row-map each f (k + 1) xs)
@@ -56,7 +56,7 @@ pub keys_all : (place : Place) (fields : List Key) (table : BTreeMap (String Glo
     → Adds old new (flat_map (λ k. key_finding place (string_bytes k) (key_fault (map field_of fields) (string_bytes k))) (keys_of table.entries))
     → Adds old new (key_findings place (map field_of fields) (table_view table))
 keys_all place fields table old new p =
-    let of_key : List ℕ → List Finding = λ k. key_finding place k (key_fault (map field_of fields) k) in
+    let of_key : List ℕ → List PlanFinding = λ k. key_finding place k (key_fault (map field_of fields) k) in
     rw (← keys_are table.entries, flat_map-map of_key (λ (k : String Global). string_bytes k) (keys_of table.entries)) p
 
 pub table_all : (place : Place) (fields : List Field) (m : Members) (old mid new : Kept)

@@ -1,5 +1,5 @@
 -- The first finding has the fault of the least number, and so has the text.
-use Rattle.afdx_config.proofs.Names.{Bool, ◌≡◌, ◌≢◌, ℕ, ◌<◌, List, [], ◌∷◌, ◌++◌, true, false, Some, None, refl, ap, subst, ◌∙◌, arith, eq-eqb, list_any, same_Some, Result, Ok, Err, IfOk, IfErr, Members, map, nat_tests, fault_number, cells_of, ConfigFault, Memory, Plan, plan_of, shows, Reads, HasFault, IsLeastFault, IsLeastShown, IsPlanOf, plan_shows, whole, sym, Finding, finding_of, findings, has, FirstIsAnswered, by_fault, number_of, plan_findings, value_findings, Holds, IsOrdered, fault_of, Kept, told_once}
+use Rattle.afdx_config.proofs.Names.{Bool, ◌≡◌, ◌≢◌, ℕ, ◌<◌, List, [], ◌∷◌, ◌++◌, true, false, Some, None, refl, ap, subst, ◌∙◌, arith, eq-eqb, list_any, same_Some, Result, Ok, Err, IfOk, IfErr, Members, map, nat_tests, fault_number, cells_of, ConfigFault, Memory, Plan, plan_of, shows, Reads, HasFault, IsLeastFault, IsLeastShown, IsPlanOf, plan_shows, whole, sym, PlanFinding, finding_of, findings, has, FirstIsAnswered, by_fault, number_of, plan_findings, value_findings, Holds, IsOrdered, fault_of, Kept, told_once}
 use Rattle.afdx_config.proofs.OnceLemmas.{any_once, no_once}
 use Rattle.afdx_config.proofs.OrderLemmas.{any_by_fault, are_ordered, no_finding, r_map}
 use Rattle.afdx_config.proofs.ShownLemmas.{faults_are_found, no_toml, none_has, plan_shown}
@@ -14,11 +14,11 @@ of_text : (f : ConfigFault) (text : List ℕ) (doc : Members) → Reads text doc
 of_text f text doc reads h = grind (arith, nat_tests, no_toml)
 
 -- no finding before the first has a lower number
-lower : (f : ConfigFault) (x : Finding) (rest : List Finding) → fault_number f < number_of x → IsOrdered (x ∷ rest) → list_any (has f) (x ∷ rest) ≡ false
+lower : (f : ConfigFault) (x : PlanFinding) (rest : List PlanFinding) → fault_number f < number_of x → IsOrdered (x ∷ rest) → list_any (has f) (x ∷ rest) ≡ false
 lower f x rest below ordered = grind (arith, nat_tests, none_has, r_map)
 
 -- the fault of the first finding is the least one that is shown
-least_of : (shown : ConfigFault → Bool) (all : List Finding) (x : Finding) (rest : List Finding) → by_fault all ≡ x ∷ rest
+least_of : (shown : ConfigFault → Bool) (all : List PlanFinding) (x : PlanFinding) (rest : List PlanFinding) → by_fault all ≡ x ∷ rest
     → ((f : ConfigFault) → shown f ≡ list_any (has f) (by_fault all))
     → (shown x.fault ≡ true) × ((f : ConfigFault) → fault_number f < number_of x → shown f ≡ false)
 least_of shown all x rest is same =
@@ -30,7 +30,7 @@ least_of shown all x rest is same =
     )
 
 -- so is it of the text
-least : (text : List ℕ) (doc : Members) (x : Finding) (rest : List Finding) → Reads text doc → findings doc ≡ x ∷ rest → IsLeastFault text x.fault
+least : (text : List ℕ) (doc : Members) (x : PlanFinding) (rest : List PlanFinding) → Reads text doc → findings doc ≡ x ∷ rest → IsLeastFault text x.fault
 least text doc x rest reads is = let (here, less) = least_of (λ f. shows f doc) (told_once (value_findings doc ++ plan_findings (cells_of doc))) x rest is (faults_are_found doc) in
     (of_text x.fault text doc reads here, λ f below. hasnt f text doc reads (less f below))
 
@@ -51,15 +51,15 @@ pub answer_err : (text : List ℕ) (doc : Members) (r : Result Plan ConfigFault)
 answer_err text doc (Ok c) reads first = tt
 answer_err text doc (Err e) reads first = λ other. here (findings doc) refl (first other)
   where
-    here : (xs : List Finding) → findings doc ≡ xs → fault_of xs ≡ Some e → IsLeastFault text e
+    here : (xs : List PlanFinding) → findings doc ≡ xs → fault_of xs ≡ Some e → IsLeastFault text e
     here [] is at = cc
     here (x ∷ rest) is at = rw (← same_Some x.fault e at) (least text doc x rest reads is)
 
 -- the first of those that are kept
-pub first_kept : (found : Kept) (all : List Finding) → Holds found all → fault_of (map finding_of found.first.items) ≡ fault_of (by_fault (told_once all))
+pub first_kept : (found : Kept) (all : List PlanFinding) → Holds found all → fault_of (map finding_of found.first.items) ≡ fault_of (by_fault (told_once all))
 first_kept found all holds = let are = holds.keeps.first_are in grind (arith, nat_tests, fault_of)
 
-pub no_first : (xs : List Finding) → fault_of xs ≡ None → xs ≡ []
+pub no_first : (xs : List PlanFinding) → fault_of xs ≡ None → xs ≡ []
 no_first xs is = grind (arith, nat_tests)
 
 -- the first finding of a plan's rules has the least fault that it shows
@@ -69,7 +69,7 @@ least_shown plan fault is = here (by_fault (told_once (plan_findings (whole plan
     shown : (f : ConfigFault) → plan_shows f plan ≡ list_any (has f) (by_fault (told_once (plan_findings (whole plan))))
     shown f = sym (plan_shown f (whole plan)) ∙ sym (any_by_fault (has f) (told_once (plan_findings (whole plan))) ∙ any_once f (plan_findings (whole plan)))
 
-    here : (xs : List Finding) → by_fault (told_once (plan_findings (whole plan))) ≡ xs → fault_of xs ≡ Some fault → IsLeastShown fault plan
+    here : (xs : List PlanFinding) → by_fault (told_once (plan_findings (whole plan))) ≡ xs → fault_of xs ≡ Some fault → IsLeastShown fault plan
     here [] all at = cc
     here (x ∷ rest) all at = rw (← same_Some x.fault fault at) (least_of (λ f. plan_shows f plan) (told_once (plan_findings (whole plan))) x rest all shown)
 

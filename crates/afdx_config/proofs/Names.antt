@@ -40,7 +40,7 @@ pub use Rattle.afdx_config.specs.Explained.{column_after, TellsDocument, TellsSt
 pub use Rattle.afdx_config.specs.Faults.{HasFault, IsLeastFault, IsLeastShown, IsPlanOf, Reads, shows, values_show}
 pub use Rattle.afdx_config.specs.FindingLaws.{FaultsAreFound, FirstIsAnswered, PlacesHaveFaults, RulesAgree, breaks_at, fields_at, has_place, members_at, key_has, row_has, rows_have, tells, value_has}
 pub use Rattle.afdx_config.specs.Cells.{cells_of, link_of, plan_of, port_of, link_row, port_row}
-pub use Rattle.afdx_config.specs.Findings.{Finding, crowd_finding, each_row, findings, found, has, key_finding, misfit_finding, one_if, pair_finding, pair_findings, row_like, rule_findings, table_findings, field_findings, key_findings, by_fault, number_of, plan_findings, value_findings, lines_limit, put, is_newer, once_after, told_once}
+pub use Rattle.afdx_config.specs.Findings.{PlanFinding, crowd_finding, each_row, findings, found, has, key_finding, misfit_finding, one_if, pair_finding, pair_findings, row_like, rule_findings, table_findings, field_findings, key_findings, by_fault, number_of, plan_findings, value_findings, lines_limit, put, is_newer, once_after, told_once}
 pub use Rattle.afdx_config.specs.Sharing.{first_row, is_key, flow_of, sub_in, is_on_sub, all_five, address_in, address_of, address_cmp, first_at, off_link, sharing_place, sub_cmp}
 pub use Rattle.afdx_config.specs.Format.{Field, document_fields, end_fields, link_fields, port_fields, only_in_2, field}
 pub use Rattle.afdx_config.specs.Seen.{Adds, cells_in, finding_of, IsDocument, IsSoundTable, data_of, field_of, Holds, Keeps, KeepsOne, IsOrdered, fault_of, AreInRange, plan_in}
@@ -56,7 +56,7 @@ pub use Rattle.std.specs.Result.{result_err, result_ok}
 pub use Rattle.afdx_config.specs.Values.{in_network_10, AddressesAreDotted}
 pub use Rattle.std.proofs.Math.Path.{fun_ext}
 pub use Rattle.std.proofs.Math.ListN.{get_or-map}
-pub use Rattle.afdx_config.specs.declared.findings.Finding.{Finding as Written}
+pub use Rattle.afdx_config.specs.declared.findings.PlanFinding.{PlanFinding as Written}
 pub use Rattle.afdx_config.specs.declared.format.Content.TheVariants.{Networks, Checksum}
 pub use Rattle.afdx_config.specs.declared.rows.Rows.{Rows}
 pub use Rattle.afdx_plan.specs.Plan.{IsLink, IsPort}

@@ -1,35 +1,35 @@
 -- Findings of which one cause is told once.
-use Rattle.afdx_config.proofs.Names.{◌≡◌, List, [], ◌∷◌, ◌++◌, Bool, true, false, ◌||◌, ◌&&◌, ◌==◌, refl, ap, sym, ◌∙◌, arith, nat_tests, AllByRecursion, list_any, list_any-append, or-false, UnknownKey, fault_number, ConfigFault, Finding, has, Adds, Kept, KeepsOne, is_newer, once_after, told_once}
+use Rattle.afdx_config.proofs.Names.{◌≡◌, List, [], ◌∷◌, ◌++◌, Bool, true, false, ◌||◌, ◌&&◌, ◌==◌, refl, ap, sym, ◌∙◌, arith, nat_tests, AllByRecursion, list_any, list_any-append, or-false, UnknownKey, fault_number, ConfigFault, PlanFinding, has, Adds, Kept, KeepsOne, is_newer, once_after, told_once}
 
 -- one more finding, which is told
-pub told_more : (told : Bool) (xs : List Finding) (x : Finding) → ((told || list_any is_newer xs) && is_newer x) ≡ false
+pub told_more : (told : Bool) (xs : List PlanFinding) (x : PlanFinding) → ((told || list_any is_newer xs) && is_newer x) ≡ false
     → once_after told (xs ++ x ∷ []) ≡ once_after told xs ++ x ∷ []
 told_more true [] x new = grind arith
 told_more false [] x new = refl
 told_more told (y ∷ ys) x new = grind (arith, nat_tests, told_more told ys x, told_more (told || is_newer y) ys x)
 
 -- or isn't
-pub told_same : (told : Bool) (xs : List Finding) (x : Finding) → ((told || list_any is_newer xs) && is_newer x) ≡ true
+pub told_same : (told : Bool) (xs : List PlanFinding) (x : PlanFinding) → ((told || list_any is_newer xs) && is_newer x) ≡ true
     → once_after told (xs ++ x ∷ []) ≡ once_after told xs
 told_same true [] x old = grind arith
 told_same false [] x old = grind arith
 told_same told (y ∷ ys) x old = grind (arith, nat_tests, told_same told ys x, told_same (told || is_newer y) ys x)
 
 -- what holds of all holds of those that are told
-pub r_once : (P : Finding → Type 0) (told : Bool) (xs : List Finding) → AllByRecursion P xs → AllByRecursion P (once_after told xs)
+pub r_once : (P : PlanFinding → Type 0) (told : Bool) (xs : List PlanFinding) → AllByRecursion P xs → AllByRecursion P (once_after told xs)
 r_once P told [] each = each
 r_once P told (x ∷ xs) each = grind (arith, nat_tests, r_once P told xs each.1, r_once P (told || is_newer x) xs each.1)
 
 -- a fault that a finding has, one that is told has
-pub any_once : (f : ConfigFault) (xs : List Finding) → list_any (has f) (told_once xs) ≡ list_any (has f) xs
+pub any_once : (f : ConfigFault) (xs : List PlanFinding) → list_any (has f) (told_once xs) ≡ list_any (has f) xs
 any_once f [] = refl
 any_once f (x ∷ xs) = by_test (any_once f xs) (is_newer x) refl
   where
     -- what isn't told has the fault of what was told
-    same : (y : Finding) → is_newer y ≡ true → has f y ≡ (fault_number f == fault_number UnknownKey)
+    same : (y : PlanFinding) → is_newer y ≡ true → has f y ≡ (fault_number f == fault_number UnknownKey)
     same y new = grind (arith, nat_tests)
 
-    other : (ys : List Finding) → (fault_number f == fault_number UnknownKey) ≡ false
+    other : (ys : List PlanFinding) → (fault_number f == fault_number UnknownKey) ≡ false
         → list_any (has f) (once_after true ys) ≡ list_any (has f) ys
     other [] not = refl
     other (y ∷ ys) not = grind (arith, nat_tests, same y, other ys not)
@@ -44,19 +44,19 @@ any_once f (x ∷ xs) = by_test (any_once f xs) (is_newer x) refl
     by_test rest true new = by_number (fault_number f == fault_number UnknownKey) refl new
     by_test rest false new = ap (λ b. has f x || b) rest
 
-pub no_once : (xs : List Finding) → told_once xs ≡ [] → xs ≡ []
+pub no_once : (xs : List PlanFinding) → told_once xs ≡ [] → xs ≡ []
 no_once [] is = refl
 no_once (x ∷ xs) is = cc
 
 -- adding a finding whose cause was told
-pub adds_none : (old new : Kept) (x : Finding) → old.has_newer ≡ true → is_newer x ≡ true → new ≡ old → Adds old new (x ∷ [])
+pub adds_none : (old new : Kept) (x : PlanFinding) → old.has_newer ≡ true → is_newer x ≡ true → new ≡ old → Adds old new (x ∷ [])
 adds_none old new x told newer same all holds =
     let seen : list_any is_newer all ≡ true = sym holds.newer_is ∙ told in
     let kept = told_same false all x (rw (seen, newer) refl) in
     rw same (record { keeps = rw kept holds.keeps; newer_is = told ∙ sym (rw (list_any-append is_newer all (x ∷ []), seen) refl) })
 
 -- adding one whose cause wasn't
-pub adds_told : (old mid new : Kept) (x : Finding) → (old.has_newer && is_newer x) ≡ false → KeepsOne old mid x
+pub adds_told : (old mid new : Kept) (x : PlanFinding) → (old.has_newer && is_newer x) ≡ false → KeepsOne old mid x
     → new.first ≡ mid.first → new.count ≡ mid.count → new.has_newer ≡ (old.has_newer || is_newer x) → Adds old new (x ∷ [])
 adds_told old mid new x own one first count newer all holds =
     let kept = one (told_once all) holds.keeps in

@@ -1,5 +1,5 @@
 -- Findings in the order of the numbers of their faults.
-use Rattle.afdx_config.proofs.Names.{fold-append, common_steps, length-take, map-append, drop-map, take-append-drop, take-append-le, take-take, get_or-map, fold, insert, length-append, ◌≡◌, ℕ, zero, suc, ◌+◌, ◌-◌, ◌<◌, ◌≤◌, List, [], ◌∷◌, ◌++◌, length, take, drop, get_or, map, Bool, true, false, ◌||◌, cond, refl, ap, sym, ◌∙◌, arith, take_all, take-map, length-map, drop_more, fault_number, AllByRecursion, list_any, nat_lt, nat_tests, or-false, Finding, KeepsOne, finding_of, by_fault, lines_limit, number_of, put, IsOrdered, Written, Kept, count_by, sum_by-cons, count_by-le-length, nat_le}
+use Rattle.afdx_config.proofs.Names.{fold-append, common_steps, length-take, map-append, drop-map, take-append-le, take-take, fold, insert, length-append, ◌≡◌, ℕ, zero, suc, ◌+◌, ◌<◌, ◌≤◌, List, [], ◌∷◌, ◌++◌, length, take, drop, map, Bool, true, false, ◌||◌, cond, refl, ap, sym, ◌∙◌, arith, take_all, take-map, length-map, fault_number, AllByRecursion, list_any, nat_lt, nat_tests, or-false, PlanFinding, KeepsOne, finding_of, by_fault, lines_limit, number_of, put, IsOrdered, Written, Kept, count_by, sum_by-cons, count_by-le-length, nat_le}
 
 -- what holds of each element of two lists holds of those of both
 pub r_append : {A : Type 0} (P : A → Type 0) (xs ys : List A) → AllByRecursion P xs → AllByRecursion P ys → AllByRecursion P (xs ++ ys)
@@ -13,60 +13,60 @@ r_take : {A : Type 0} (P : A → Type 0) (k : ℕ) (xs : List A) → AllByRecurs
 r_take P k xs each = grind (arith, nat_tests, common_steps)
 
 -- a finding put among others
-r_put : (P : Finding → Type 0) (ys : List Finding) (x : Finding) → AllByRecursion P ys → P x → AllByRecursion P (put ys x)
+r_put : (P : PlanFinding → Type 0) (ys : List PlanFinding) (x : PlanFinding) → AllByRecursion P ys → P x → AllByRecursion P (put ys x)
 r_put P [] x each this = (this, tt)
 r_put P (y ∷ ys) x each this = grind (arith, nat_tests, (r_put P ys x each.1 this))
 
-put_any : (p : Finding → Bool) (ys : List Finding) (x : Finding) → list_any p (put ys x) ≡ (p x || list_any p ys)
+put_any : (p : PlanFinding → Bool) (ys : List PlanFinding) (x : PlanFinding) → list_any p (put ys x) ≡ (p x || list_any p ys)
 put_any p [] x = refl
 put_any p (y ∷ ys) x = grind (arith, put_any p ys x)
 
-put_ordered : (ys : List Finding) (x : Finding) → IsOrdered ys → IsOrdered (put ys x)
+put_ordered : (ys : List PlanFinding) (x : PlanFinding) → IsOrdered ys → IsOrdered (put ys x)
 put_ordered [] x ordered = (tt, tt)
 put_ordered (y ∷ ys) x ordered = grind (arith, nat_tests, r_map, r_put, (put_ordered ys x ordered.1))
 
 -- the same of all findings, put one after the other
-pub r_fold : (P : Finding → Type 0) (ys xs : List Finding) → AllByRecursion P ys → AllByRecursion P xs → AllByRecursion P (fold put ys xs)
+pub r_fold : (P : PlanFinding → Type 0) (ys xs : List PlanFinding) → AllByRecursion P ys → AllByRecursion P xs → AllByRecursion P (fold put ys xs)
 r_fold P ys [] before each = before
 r_fold P ys (x ∷ xs) before each = r_fold P (put ys x) xs (r_put P ys x before each.0) each.1
 
-fold_any : (p : Finding → Bool) (ys xs : List Finding) → list_any p (fold put ys xs) ≡ (list_any p ys || list_any p xs)
+fold_any : (p : PlanFinding → Bool) (ys xs : List PlanFinding) → list_any p (fold put ys xs) ≡ (list_any p ys || list_any p xs)
 fold_any p ys [] = sym (or-false (list_any p ys))
 fold_any p ys (x ∷ xs) = grind (arith, nat_tests, put_any, (fold_any p (put ys x) xs))
 
-put_length : (ys : List Finding) (x : Finding) → length (put ys x) ≡ length ys + 1
+put_length : (ys : List PlanFinding) (x : PlanFinding) → length (put ys x) ≡ length ys + 1
 put_length [] x = refl
 put_length (y ∷ ys) x = grind (arith, put_length ys x)
 
-fold_length : (ys xs : List Finding) → length (fold put ys xs) ≡ length ys + length xs
+fold_length : (ys xs : List PlanFinding) → length (fold put ys xs) ≡ length ys + length xs
 fold_length ys [] = omega arith
 fold_length ys (x ∷ xs) = fold_length (put ys x) xs ∙ rw (put_length ys x) (omega arith)
 
-pub length_by_fault : (xs : List Finding) → length (by_fault xs) ≡ length xs
+pub length_by_fault : (xs : List PlanFinding) → length (by_fault xs) ≡ length xs
 length_by_fault xs = fold_length [] xs ∙ omega arith
 
-pub any_by_fault : (p : Finding → Bool) (xs : List Finding) → list_any p (by_fault xs) ≡ list_any p xs
+pub any_by_fault : (p : PlanFinding → Bool) (xs : List PlanFinding) → list_any p (by_fault xs) ≡ list_any p xs
 any_by_fault p xs = fold_any p [] xs
 
-fold_ordered : (ys xs : List Finding) → IsOrdered ys → IsOrdered (fold put ys xs)
+fold_ordered : (ys xs : List PlanFinding) → IsOrdered ys → IsOrdered (fold put ys xs)
 fold_ordered ys [] ordered = ordered
 fold_ordered ys (x ∷ xs) ordered = fold_ordered (put ys x) xs (put_ordered ys x ordered)
 
-pub are_ordered : (xs : List Finding) → IsOrdered (by_fault xs)
+pub are_ordered : (xs : List PlanFinding) → IsOrdered (by_fault xs)
 are_ordered xs = fold_ordered [] xs tt
 
-take_ordered : (k : ℕ) (ys : List Finding) → IsOrdered ys → IsOrdered (take k ys)
+take_ordered : (k : ℕ) (ys : List PlanFinding) → IsOrdered ys → IsOrdered (take k ys)
 take_ordered zero ys ordered = tt
 take_ordered (suc k) [] ordered = tt
 take_ordered (suc k) (y ∷ ys) ordered = (r_take (λ z. number_of y ≤ number_of z) k ys ordered.0, take_ordered k ys ordered.1)
 
 -- no finding is lost
-pub no_finding : (xs : List Finding) → by_fault xs ≡ [] → xs ≡ []
+pub no_finding : (xs : List PlanFinding) → by_fault xs ≡ [] → xs ≡ []
 no_finding [] is = refl
 no_finding (x ∷ xs) is = let none = ap (list_any (λ y. true)) is in let any = any_by_fault (λ y. true) (x ∷ xs) in cc
 
 -- the first findings, with one put among them
-take_put : (k : ℕ) (ys : List Finding) (x : Finding) → take k (put (take k ys) x) ≡ take k (put ys x)
+take_put : (k : ℕ) (ys : List PlanFinding) (x : PlanFinding) → take k (put (take k ys) x) ≡ take k (put ys x)
 take_put zero ys x = refl
 take_put (suc k) [] x = refl
 take_put (suc k) (y ∷ ys) x = here (nat_lt (number_of x) (number_of y)) (take_put k ys x)
@@ -77,7 +77,7 @@ take_put (suc k) (y ∷ ys) x = here (nat_lt (number_of x) (number_of y)) (take_
     here false rest = ap (λ s. y ∷ s) rest
 
 -- the index of a finding among the kept ones
-abbrev pub index_in : Kept → Finding → ℕ
+abbrev pub index_in : Kept → PlanFinding → ℕ
 index_in found x = count_by (λ w. nat_le (fault_number w.fault) (number_of x)) found.first.items
 
 -- of findings with greater faults none is counted
@@ -89,7 +89,7 @@ none_before (w ∷ ws) m each =
     grind (arith, nat_tests, step, none_before ws m each.1)
 
 -- a finding goes after those of no greater faults
-placed : (first : List Written) (x : Finding) → IsOrdered (map finding_of first)
+placed : (first : List Written) (x : PlanFinding) → IsOrdered (map finding_of first)
     → insert (map finding_of first) (count_by (λ w. nat_le (fault_number w.fault) (number_of x)) first) x ≡ put (map finding_of first) x
 placed [] x ordered = refl
 placed (w ∷ ws) x ordered = here (placed ws x ordered.1) (nat_le (fault_number w.fault) (number_of x)) refl
@@ -116,7 +116,7 @@ map_insert first i x = sym (take-map finding_of lines_limit (insert first i x)) 
     ∙ rw (take-map finding_of i first, drop-map finding_of i first) refl)
 
 -- one finding, which is kept if it is among the first
-pub adds_put : (old new : Kept) (x : Finding) (index : ℕ) → new.count ≡ old.count + 1 → index ≡ index_in old x
+pub adds_put : (old new : Kept) (x : PlanFinding) (index : ℕ) → new.count ≡ old.count + 1 → index ≡ index_in old x
     → map finding_of new.first.items ≡ take lines_limit (insert (map finding_of old.first.items) index x) → KeepsOne old new x
 adds_put old new x index counted at kept all holds =
     let size = holds.count_is in
@@ -129,7 +129,7 @@ adds_put old new x index counted at kept all holds =
     }
 
 -- one finding past the first ones
-pub adds_past : (old new : Kept) (x : Finding) (index : ℕ) → new.count ≡ old.count + 1 → index ≡ index_in old x
+pub adds_past : (old new : Kept) (x : PlanFinding) (index : ℕ) → new.count ≡ old.count + 1 → index ≡ index_in old x
     → lines_limit ≤ index → new.first ≡ old.first → KeepsOne old new x
 adds_past old new x index counted at past same all holds =
     let ys = map finding_of old.first.items in
@@ -137,6 +137,6 @@ adds_past old new x index counted at past same all holds =
     let within : index ≤ length ys = rw (at, length-map old.first.items finding_of) (count_by-le-length _ old.first.items) in
     adds_put old new x index counted at (ap (λ v. map finding_of v.items) same ∙ sym (all_kept ys most within)) all holds
   where
-    all_kept : (ys : List Finding) → length ys ≤ lines_limit → index ≤ length ys → take lines_limit (insert ys index x) ≡ ys
+    all_kept : (ys : List PlanFinding) → length ys ≤ lines_limit → index ≤ length ys → take lines_limit (insert ys index x) ≡ ys
     all_kept ys most within = rw (take_all index ys (omega arith)) (take-append-le lines_limit ys (x ∷ drop index ys) (omega arith)
         ∙ take_all lines_limit ys (omega arith))

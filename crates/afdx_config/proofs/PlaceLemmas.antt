@@ -1,11 +1,11 @@
 -- The place of each finding has its fault.
-use Rattle.afdx_config.proofs.Names.{◌≡◌, ℕ, suc, ◌+◌, ◌-◌, List, [], ◌∷◌, get_or, Bool, nat_lt, false, true, ◌||◌, ◌&&◌, Option, Some, None, refl, ap, ◌∙◌, codes, arith, bytes_eq, slice_get, position, list_any, flat_map, AllByRecursion, option_map_or, or-true, All-from_recursion, position-Some, slice_get-get_or, bytes_eq-Decides, eq-eqb, Members, ConfigFault, Place, Top, option_map, is_row_of, PlanRule, Rule, links_clash, ports_clash, port_misfits, link_count, port_count, sub_is_packed, breaks, is_misfit, breaks_at, tells, plan_rules, rule, rule_findings, is_past_limit, EndSystem, Link, Port, Finding, found, one_if, key_finding, each_row, member_keys, pair_finding, pair_findings, misfit_finding, crowd_finding, Cells, cells_of, findings, row_has, rows_have, value_has, key_has, has_place, PlacesHaveFaults, Field, document_fields, end_fields, link_fields, port_fields, field_fault, key_fault, is_fault, is_version_2, rows_at, section_at, members_at, fields_at, fault_number, nat_tests}
+use Rattle.afdx_config.proofs.Names.{◌≡◌, ℕ, suc, ◌+◌, ◌-◌, List, [], ◌∷◌, get_or, Bool, nat_lt, false, true, ◌||◌, ◌&&◌, Option, Some, None, refl, ap, ◌∙◌, codes, arith, bytes_eq, slice_get, position, list_any, flat_map, AllByRecursion, option_map_or, or-true, All-from_recursion, position-Some, slice_get-get_or, bytes_eq-Decides, eq-eqb, Members, ConfigFault, Place, Top, option_map, is_row_of, PlanRule, Rule, links_clash, ports_clash, port_misfits, link_count, port_count, sub_is_packed, breaks, is_misfit, breaks_at, tells, plan_rules, rule, rule_findings, is_past_limit, EndSystem, Link, Port, PlanFinding, found, one_if, key_finding, each_row, member_keys, pair_finding, pair_findings, misfit_finding, crowd_finding, Cells, cells_of, findings, row_has, rows_have, value_has, key_has, has_place, PlacesHaveFaults, Field, document_fields, end_fields, link_fields, port_fields, field_fault, key_fault, is_fault, is_version_2, rows_at, section_at, members_at, fields_at, fault_number, nat_tests}
 use Rattle.afdx_config.proofs.OnceLemmas.{r_once}
 use Rattle.afdx_config.proofs.OrderLemmas.{r_append, r_fold, r_map}
 use Rattle.afdx_config.specs.Findings.{plan_findings, table_findings, value_findings}
 
 -- a property of a conditional finding
-r_one : (P : Finding → Type 0) (b : Bool) (x : Finding) → (b ≡ true → P x) → AllByRecursion P (one_if b x)
+r_one : (P : PlanFinding → Type 0) (b : Bool) (x : PlanFinding) → (b ≡ true → P x) → AllByRecursion P (one_if b x)
 r_one P b x step = grind (arith, nat_tests)
 
 -- a text equals itself
@@ -27,7 +27,7 @@ r_each P F all (x ∷ xs) sub step = r_append P (F x) (flat_map F xs) (step x (�
     (r_each P F all xs (sub_next x xs all sub) step)
 
 -- a property of the findings of each row
-rows_have_it : {A : Type 0} (P : Finding → Type 0) (each : ℕ → A → List Finding) (k : ℕ) (rows : List A)
+rows_have_it : {A : Type 0} (P : PlanFinding → Type 0) (each : ℕ → A → List PlanFinding) (k : ℕ) (rows : List A)
     → ((i : ℕ) (x : A) → slice_get rows i ≡ Some x → AllByRecursion P (each (i + k) x)) → AllByRecursion P (each_row each k rows)
 rows_have_it P each k [] step = tt
 rows_have_it P each k (x ∷ xs) step =
@@ -35,7 +35,7 @@ rows_have_it P each k (x ∷ xs) step =
     r_append P (each k x) (each_row each (k + 1) xs) (rw here at (step 0 x refl))
     (rows_have_it P each (k + 1) xs (λ i y is. let next : i + (k + 1) ≡ suc i + k = omega arith in rw next (step (suc i) y is)))
 
-all_rows : {A : Type 0} (P : Finding → Type 0) (each : ℕ → A → List Finding) (all : List A)
+all_rows : {A : Type 0} (P : PlanFinding → Type 0) (each : ℕ → A → List PlanFinding) (all : List A)
     → ((k : ℕ) (x : A) → slice_get all (k - 1) ≡ Some x → AllByRecursion P (each k x)) → AllByRecursion P (each_row each 1 all)
 all_rows P each all step = rows_have_it P each 1 all (λ i x is. step (i + 1) x (let back : i + 1 - 1 ≡ i = omega arith in rw back is))
 
@@ -44,7 +44,7 @@ abbrev At : Members → Place → List Field → Members → Type 0
 At doc place fields members = (members_at doc place ≡ Some members) × (fields_at doc place ≡ fields)
 
 -- a property of the findings of each table
-pub values_have : (P : Finding → Type 0) (doc : Members)
+pub values_have : (P : PlanFinding → Type 0) (doc : Members)
     → ((place : Place) (fields : List Field) (members : Members) → At doc place fields members → AllByRecursion P (table_findings place fields members))
     → AllByRecursion P (value_findings doc)
 unfolding value_findings
@@ -62,10 +62,10 @@ values_have P doc step =
     end None is = tt
     end (Some m) is = step EndSystem end_fields m (is, refl)
 
-abbrev Fine : Members → Finding → Type 0
+abbrev Fine : Members → PlanFinding → Type 0
 Fine doc f = has_place doc f ≡ true
 
-r_key : (P : Finding → Type 0) (place : Place) (key : List ℕ) (o : Option ConfigFault)
+r_key : (P : PlanFinding → Type 0) (place : Place) (key : List ℕ) (o : Option ConfigFault)
     → ((g : ConfigFault) → o ≡ Some g → P (found g place key None)) → AllByRecursion P (key_finding place key o)
 r_key P place key o step = grind (arith, nat_tests)
 
@@ -85,7 +85,7 @@ table_fine doc place fields members at = r_append (Fine doc) _ _
     let here = inside (bytes_eq key) (bytes_same key) in grind (arith, nat_tests, or-true))))
 
 -- a finding of a rule whose place breaks it
-abbrev Broken : Cells → PlanRule → Finding → Type 0
+abbrev Broken : Cells → PlanRule → PlanFinding → Type 0
 Broken cells r f = tells cells f r ≡ true
 
 broken_at : (cells : Cells) (r : PlanRule) (place : Place) (other : Option ℕ) → breaks_at r.forbids cells place other ≡ true
@@ -134,7 +134,7 @@ rule_fine cells f key sub_is_packed = all_rows (Broken cells (rule f key sub_is_
     broken_at cells (rule f key sub_is_packed) (Port k) None (row_passes (is_past_limit cells.ports k) cells.ports k p is bad)))
 
 -- the place of a finding of 7 to 14 has its fault
-abbrev pub Has : Cells → Finding → Type 0
+abbrev pub Has : Cells → PlanFinding → Type 0
 Has cells f = list_any (tells cells f) plan_rules ≡ true
 
 pub plan_fine : (cells : Cells) → AllByRecursion (Has cells) (plan_findings cells)

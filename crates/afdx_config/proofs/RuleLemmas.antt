@@ -1,5 +1,5 @@
 -- A document whose values have no fault has the faults of its plan.
-use Rattle.afdx_config.proofs.Names.{◌≡◌, ◌<◌, List, [], ◌∷◌, Bool, false, map, refl, ap, sym, ◌∙◌, AllByRecursion, list_any, ◌||◌, ◌&&◌, ◌==◌, is_none, Members, Plan, cells_of, cells_show, plan_of, PlanRule, breaks, link_whole, port_whole, whole, plan_rules, Top, Link, Port, document_fields, link_fields, port_fields, is_version_2, IsSoundTable, RulesAgree, Finding, ConfigFault, eq-eqb, fault_number, findings, has, codes, link_of, port_of, get_member, plan_shows, None, or_parts, All-map, Networks, Checksum, field, networks_under, checksum_under, AreInRange, plan_in, Rows, IsPlan, IsLink, IsPort, Ms1, Both, Sampling, Omitted, Unbroken, valid, All, by_fault, told_once}
+use Rattle.afdx_config.proofs.Names.{◌≡◌, ◌<◌, List, [], ◌∷◌, Bool, false, map, refl, ap, sym, ◌∙◌, AllByRecursion, list_any, ◌||◌, ◌&&◌, ◌==◌, is_none, Members, Plan, cells_of, cells_show, plan_of, PlanRule, breaks, link_whole, port_whole, whole, plan_rules, Top, Link, Port, document_fields, link_fields, port_fields, is_version_2, IsSoundTable, RulesAgree, PlanFinding, ConfigFault, eq-eqb, fault_number, findings, has, codes, link_of, port_of, get_member, plan_shows, None, or_parts, All-map, Networks, Checksum, field, networks_under, checksum_under, AreInRange, plan_in, Rows, IsPlan, IsLink, IsPort, Ms1, Both, Sampling, Omitted, Unbroken, valid, All, by_fault, told_once}
 use Rattle.afdx_config.specs.Cells.{link_row, port_row}
 use Rattle.afdx_config.specs.Findings.{plan_findings, value_findings}
 use Rattle.afdx_config.proofs.FirstLemmas.{no_value}
@@ -53,7 +53,7 @@ cells_are doc is =
     let no_p = ap is_none has_ports in cc
 
 -- a list in which no fault is found is empty
-empty : (xs : List Finding) → ((fault : ConfigFault) → list_any (has fault) xs ≡ false) → xs ≡ []
+empty : (xs : List PlanFinding) → ((fault : ConfigFault) → list_any (has fault) xs ≡ false) → xs ≡ []
 empty [] lacks = refl
 empty (x ∷ xs) lacks = let none = lacks x.fault in let number = eq-eqb (fault_number x.fault) (fault_number x.fault) refl in cc
 

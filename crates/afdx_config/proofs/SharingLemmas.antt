@@ -1,5 +1,5 @@
 -- Ports with the same keys.
-use Rattle.afdx_config.proofs.Names.{fun_ext, ◌≡◌, ℕ, List, [], ◌∷◌, Bool, true, false, ◌&&◌, Option, Some, None, refl, ap, sym, ◌∙◌, arith, option_map_or, nat_eq, eq-eqb, nat_cmp, is_eq, Ordering, ordering_then, both_tied, and-false, slice_cmp, option_cmp, not, ◌==◌, map, position, position_from, position_from-zero, get_or, eqb-true, share_unicast, cond, length, ◌<◌, both, is_key, PortRow, same_flow, flow_of, are_one_destination, are_one_address, on_sub_of, ◌-◌, nat_le, one_if, found, Limit, Port, codes, crowd_finding, Equal, ◌+◌, ◌^◌, take, count_by, add-zero, count_by-le-length, count_by_more_yes, count_by_more_no, exact_bytes, exact_pairs, exact_unsigned, sub_in, is_on_sub, all_five, address_in, address_of, address_cmp, first_at, off_link, sharing_place, nat_tests}
+use Rattle.afdx_config.proofs.Names.{fun_ext, ◌≡◌, ℕ, List, [], ◌∷◌, Bool, true, false, ◌&&◌, Option, Some, None, refl, ap, sym, ◌∙◌, arith, option_map_or, nat_eq, eq-eqb, nat_cmp, is_eq, Ordering, ordering_then, both_tied, and-false, slice_cmp, option_cmp, not, ◌==◌, position, position_from, position_from-zero, get_or, eqb-true, share_unicast, cond, length, ◌<◌, both, is_key, PortRow, same_flow, flow_of, are_one_destination, are_one_address, on_sub_of, ◌-◌, nat_le, one_if, found, Limit, Port, codes, crowd_finding, Equal, ◌+◌, ◌^◌, take, count_by, add-zero, count_by-le-length, count_by_more_yes, count_by_more_no, exact_bytes, exact_pairs, exact_unsigned, sub_in, is_on_sub, all_five, address_in, address_of, address_cmp, first_at, off_link, sharing_place, nat_tests}
 use Rattle.std.proofs.Common.{length-take}
 use Rattle.afdx_config.proofs.SectionLemmas.{none_on}
 use Rattle.afdx_config.proofs.KeyedLemmas.{same_address, position_none}

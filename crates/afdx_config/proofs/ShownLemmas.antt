@@ -1,5 +1,5 @@
 -- A document has a fault exactly if some finding has it.
-use Rattle.afdx_config.proofs.Names.{length-append, ◌≡◌, ℕ, ◌+◌, ◌<◌, ◌≤◌, List, [], ◌∷◌, ◌++◌, length, Bool, true, false, ◌||◌, ◌&&◌, append_assoc, lit≤, Option, Some, None, refl, ap, sym, ◌∙◌, arith, ◌==◌, nat_tests, or-false, and-true, and-false, and-or_distrib_left, nat_lt, list_any-append, position, position_from, list_any, then_some, position_from-zero, AllByRecursion, not, Data, Members, get_member, fault_number, has_pair, ConfigFault, Toml, UnknownKey, Place, Top, Link, Port, Field, flat_map, PlanRule, Rule, links_clash, ports_clash, port_misfits, link_count, port_count, sub_is_packed, breaks, is_misfit, plan_rules, rule_findings, shows, values_show, Finding, found, has, one_if, key_finding, member_keys, each_row, pair_finding, pair_findings, is_past_limit, misfit_finding, crowd_finding, Cells, cells_show, any_row, field_fault, key_fault, is_key_of, IfSome, Content, Result, content_fault, FaultsAreFound, result_err, read, value_findings}
+use Rattle.afdx_config.proofs.Names.{length-append, ◌≡◌, ℕ, ◌+◌, ◌<◌, ◌≤◌, List, [], ◌∷◌, ◌++◌, length, Bool, true, false, ◌||◌, ◌&&◌, append_assoc, lit≤, Option, Some, None, refl, ap, sym, ◌∙◌, arith, ◌==◌, nat_tests, or-false, and-true, and-false, and-or_distrib_left, nat_lt, list_any-append, position, position_from, list_any, then_some, position_from-zero, AllByRecursion, not, Data, Members, get_member, fault_number, has_pair, ConfigFault, Toml, UnknownKey, Place, Top, Link, Port, Field, flat_map, PlanRule, Rule, links_clash, ports_clash, port_misfits, link_count, port_count, sub_is_packed, breaks, is_misfit, plan_rules, rule_findings, shows, values_show, PlanFinding, found, has, one_if, key_finding, member_keys, each_row, pair_finding, pair_findings, is_past_limit, misfit_finding, crowd_finding, Cells, cells_show, any_row, field_fault, key_fault, is_key_of, IfSome, Content, Result, content_fault, FaultsAreFound, result_err, read, value_findings}
 use Rattle.afdx_config.specs.Findings.{plan_findings, table_findings}
 use Rattle.afdx_config.proofs.OnceLemmas.{any_once}
 use Rattle.afdx_config.proofs.OrderLemmas.{any_by_fault, r_append, r_map}
@@ -11,7 +11,7 @@ any_no [] = refl
 any_no (x ∷ xs) = any_no xs
 
 -- a conditional finding
-one : (f : ConfigFault) (b : Bool) (x : Finding) → list_any (has f) (one_if b x) ≡ (has f x && b)
+one : (f : ConfigFault) (b : Bool) (x : PlanFinding) → list_any (has f) (one_if b x) ≡ (has f x && b)
 one f true x = or-false (has f x) ∙ sym (and-true (has f x))
 one f false x = sym (and-false (has f x))
 
@@ -20,7 +20,7 @@ abbrev same : ConfigFault → ConfigFault → Bool
 same f g = fault_number f == fault_number g
 
 -- the findings of each row, which have the fault g
-rows_shown : {A : Type 0} (f g : ConfigFault) (each : ℕ → A → List Finding) (test : ℕ → A → Bool) (k : ℕ) (xs : List A)
+rows_shown : {A : Type 0} (f g : ConfigFault) (each : ℕ → A → List PlanFinding) (test : ℕ → A → Bool) (k : ℕ) (xs : List A)
     → ((j : ℕ) (x : A) → list_any (has f) (each j x) ≡ (same f g && test j x))
     → list_any (has f) (each_row each k xs) ≡ (same f g && any_row test k xs)
 rows_shown f g each test k [] shown = sym (and-false (same f g))
@@ -142,7 +142,7 @@ values_in : (doc : Members) → AllByRecursion (λ x. IsValue x.fault) (value_fi
 values_in doc = values_have (λ x. IsValue x.fault) doc (λ place fields members at. table_in place fields members)
 
 -- no finding has this fault
-pub none_has : (f : ConfigFault) (xs : List Finding) → AllByRecursion (λ x. same f x.fault ≡ false) xs → list_any (has f) xs ≡ false
+pub none_has : (f : ConfigFault) (xs : List PlanFinding) → AllByRecursion (λ x. same f x.fault ≡ false) xs → list_any (has f) xs ≡ false
 none_has f [] all = refl
 none_has f (x ∷ xs) all = rw all.0 (none_has f xs all.1)
 

@@ -10,7 +10,7 @@ use Rattle.afdx_config.specs.Cells.{cells_of, plan_of}
 use Rattle.afdx_config.specs.declared.findings.Place.{Place}
 use Rattle.afdx_config.specs.declared.findings.Place.TheVariants.{Text, Top, EndSystem, Link, Port}
 use Rattle.afdx_config.specs.Faults.{shows, values_show, Reads, IsLeastFault, IsPlanOf}
-use Rattle.afdx_config.specs.Findings.{Finding, findings, has}
+use Rattle.afdx_config.specs.Findings.{PlanFinding, findings, has}
 use Rattle.afdx_config.specs.Tables.{member_keys, field_fault, is_fault, is_key_of, is_version_2, rows_at, section_at}
 use Rattle.afdx_config.specs.Format.{Field, document_fields, end_fields, link_fields, port_fields}
 
@@ -24,7 +24,8 @@ FaultsAreFound = (document : Members) (fault : ConfigFault)
 abbrev pub FirstIsAnswered : Type 0
 FirstIsAnswered = (text : List ℕ) (document : Members) → Reads text document
     → (findings document ≡ [] → IsPlanOf text (plan_of document))
-    × ((first : Finding) (rest : List Finding) → findings document ≡ first ∷ rest → IsLeastFault text first.fault)
+    × ((first : PlanFinding) (rest : List PlanFinding) → findings document ≡ first ∷ rest
+    → IsLeastFault text first.fault)
 
 -- if a document has no fault of 2 to 6, its faults are its plan's
 abbrev pub RulesAgree : Type 0
@@ -52,13 +53,13 @@ abbrev pub table_has : (Members → Bool) → Members → Place → Bool
 table_has test document place = option_map_or test (members_at document place) false
 
 -- the finding's key is in the table's format and has the fault
-abbrev pub value_has : Members → Finding → Bool
+abbrev pub value_has : Members → PlanFinding → Bool
 value_has document f = table_has (λ members. list_any
     (λ field. bytes_eq f.key field.key && is_fault f.fault (field_fault members field))
     (fields_at document f.place)) document f.place
 
 -- the finding's key is in the table but not in its format
-abbrev pub key_has : Members → Finding → Bool
+abbrev pub key_has : Members → PlanFinding → Bool
 key_has document f = table_has (λ members.
     (is_fault f.fault (Some UnknownKey) && not (is_key_of (fields_at document f.place) f.key))
     && list_any (bytes_eq f.key) (member_keys members)) document f.place
@@ -83,11 +84,11 @@ breaks_at sub_is_packed cells (Port k) other = row_has (is_past_limit cells.port
 breaks_at _ cells _ other = false
 
 -- a finding is one of a rule, which is broken at its place
-abbrev pub tells : Cells → Finding → PlanRule → Bool
+abbrev pub tells : Cells → PlanFinding → PlanRule → Bool
 tells cells f r = (has r.fault f && bytes_eq f.key r.key) && breaks_at r.forbids cells f.place f.other
 
 -- the table or value at a finding's place has its fault
-abbrev pub has_place : Members → Finding → Bool
+abbrev pub has_place : Members → PlanFinding → Bool
 has_place document f = (value_has document f || key_has document f)
     || list_any (tells (cells_of document) f) plan_rules
 

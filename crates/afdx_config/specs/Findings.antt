@@ -15,44 +15,44 @@ use Rattle.afdx_config.specs.Cells.{cells_of}
 use Rattle.afdx_config.specs.Tables.{member_keys, field_fault, key_fault, rows_at, section_at, is_version_2}
 
 -- a fault, its place, its key, and the other table of a fault of two
-pub record Finding : Type 0 where
+pub record PlanFinding : Type 0 where
   pub fault : ConfigFault
   pub place : Place
   pub key : List ℕ
   pub other : Option ℕ
 
 -- a finding made of its parts
-abbrev pub found : ConfigFault → Place → List ℕ → Option ℕ → Finding
+abbrev pub found : ConfigFault → Place → List ℕ → Option ℕ → PlanFinding
 found which at name with_other = record { fault = which; place = at; key = name; other = with_other }
 
 -- a finding has this fault
-abbrev pub has : ConfigFault → Finding → Bool
+abbrev pub has : ConfigFault → PlanFinding → Bool
 has fault finding = fault_number fault == fault_number finding.fault
 
 -- one finding if the test holds, else none
-abbrev pub one_if : Bool → Finding → List Finding
+abbrev pub one_if : Bool → PlanFinding → List PlanFinding
 one_if true finding = finding ∷ []
 one_if false finding = []
 
 -- the finding of a key, if it has a fault
-abbrev pub key_finding : Place → List ℕ → Option ConfigFault → List Finding
+abbrev pub key_finding : Place → List ℕ → Option ConfigFault → List PlanFinding
 key_finding place key None = []
 key_finding place key (Some fault) = found fault place key None ∷ []
 
 -- the findings of the keys of a table's format
-abbrev pub field_findings : Place → List Field → Members → List Finding
+abbrev pub field_findings : Place → List Field → Members → List PlanFinding
 field_findings place fields members = flat_map (λ field. key_finding place field.key (field_fault members field)) fields
 
 -- the findings of a table's own keys
-abbrev pub key_findings : Place → List Field → Members → List Finding
+abbrev pub key_findings : Place → List Field → Members → List PlanFinding
 key_findings place fields members = flat_map (λ key. key_finding place key (key_fault fields key)) (member_keys members)
 
 -- the findings of a table: first on the keys of its format, then on its own keys
-unfoldable pub table_findings : Place → List Field → Members → List Finding
+unfoldable pub table_findings : Place → List Field → Members → List PlanFinding
 table_findings place fields members = field_findings place fields members ++ key_findings place fields members
 
 -- the findings of the rows of an array, counted from k
-abbrev pub each_row : {A : Type 0} → (ℕ → A → List Finding) → ℕ → List A → List Finding
+abbrev pub each_row : {A : Type 0} → (ℕ → A → List PlanFinding) → ℕ → List A → List PlanFinding
 each_row each k [] = []
 each_row each k (row ∷ rest) = each k row ++ each_row each (k + 1) rest
 
@@ -62,7 +62,7 @@ row_like (Link j) k = Link k
 row_like _ k = Port k
 
 -- the findings of 2 to 6: on the top level, the end system, the links and the ports
-unfoldable pub value_findings : Members → List Finding
+unfoldable pub value_findings : Members → List PlanFinding
 value_findings document = table_findings Top document_fields document
     ++ option_map_or (table_findings EndSystem end_fields) (section_at (codes "end_system") document) []
     ++ each_row
@@ -73,26 +73,27 @@ value_findings document = table_findings Top document_fields document
     (rows_at (codes "port") document)
 
 -- the fault of table k and of the first one that it clashes with, which is at this index, if that one is earlier
-abbrev pub pair_finding : ConfigFault → List ℕ → (ℕ → Place) → ℕ → Option ℕ → List Finding
+abbrev pub pair_finding : ConfigFault → List ℕ → (ℕ → Place) → ℕ → Option ℕ → List PlanFinding
 pair_finding fault key at k None = []
 pair_finding fault key at k (Some i) = one_if (nat_lt (i + 1) k) (found fault (at k) key (Some (i + 1)))
 
 -- the findings of the rows that clash with an earlier one, each with the first such row
-abbrev pub pair_findings : {A : Type 0} → ConfigFault → List ℕ → (ℕ → Place) → (A → A → Bool) → List A → List Finding
+abbrev pub pair_findings : {A : Type 0} → ConfigFault → List ℕ → (ℕ → Place) → (A → A → Bool) → List A
+    → List PlanFinding
 pair_findings fault key at clash rows =
     each_row (λ k row. pair_finding fault key at k (position (λ earlier. clash earlier row) rows)) 1 rows
 
 -- the finding of port k that names the number of its link, if it does not fit that link
-abbrev pub misfit_finding : ConfigFault → List ℕ → Misfit → Cells → ℕ → PortRow → List Finding
+abbrev pub misfit_finding : ConfigFault → List ℕ → Misfit → Cells → ℕ → PortRow → List PlanFinding
 misfit_finding fault key misfit cells k port = one_if (is_misfit misfit cells port)
     (found fault (Port k) key (option_map (λ i. i + 1) (position (is_row_of port) cells.links)))
 
 -- the finding of port k, if it is past the 64th on its sub-VL
-abbrev pub crowd_finding : ConfigFault → List ℕ → List PortRow → ℕ → PortRow → List Finding
+abbrev pub crowd_finding : ConfigFault → List ℕ → List PortRow → ℕ → PortRow → List PlanFinding
 crowd_finding fault key ports k port = one_if (is_past_limit ports k port) (found fault (Port k) key None)
 
 -- the findings of links and ports that break a rule
-abbrev pub rule_findings : ConfigFault → List ℕ → Rule → Cells → List Finding
+abbrev pub rule_findings : ConfigFault → List ℕ → Rule → Cells → List PlanFinding
 rule_findings fault key (links_clash clash) cells = pair_findings fault key Link clash cells.links
 rule_findings fault key (ports_clash clash) cells = pair_findings fault key Port clash cells.ports
 rule_findings fault key (port_misfits misfit) cells = each_row (misfit_finding fault key misfit cells) 1 cells.ports
@@ -101,20 +102,20 @@ rule_findings fault key port_count cells = one_if (breaks cells port_count) (fou
 rule_findings fault key sub_is_packed cells = each_row (crowd_finding fault key cells.ports) 1 cells.ports
 
 -- the findings of 7 to 14
-unfoldable pub plan_findings : Cells → List Finding
+unfoldable pub plan_findings : Cells → List PlanFinding
 plan_findings cells = flat_map (λ (r : PlanRule). rule_findings r.fault r.key r.forbids cells) plan_rules
 
 -- the number of a finding's fault
-abbrev pub number_of : Finding → ℕ
+abbrev pub number_of : PlanFinding → ℕ
 number_of finding = fault_number finding.fault
 
 -- a list with one more finding, put after the findings of faults with no greater number
-abbrev pub put : List Finding → Finding → List Finding
+abbrev pub put : List PlanFinding → PlanFinding → List PlanFinding
 put [] x = x ∷ []
 put (y ∷ ys) x = if nat_lt (number_of x) (number_of y) then x ∷ y ∷ ys else y ∷ put ys x
 
 -- findings ordered by the numbers of their faults; findings of one fault keep their order
-abbrev pub by_fault : List Finding → List Finding
+abbrev pub by_fault : List PlanFinding → List PlanFinding
 by_fault all = fold put [] all
 
 -- a key of a link or a port that only version 2 has
@@ -124,20 +125,20 @@ is_newer_key (Port k) key = bytes_eq key (codes "checksum")
 is_newer_key _ key = false
 
 -- an unknown key that only version 2 has
-abbrev pub is_newer : Finding → Bool
+abbrev pub is_newer : PlanFinding → Bool
 is_newer finding = has UnknownKey finding && is_newer_key finding.place finding.key
 
 -- findings without any of a key that only version 2 has, except the first if none was told before
-abbrev pub once_after : Bool → List Finding → List Finding
+abbrev pub once_after : Bool → List PlanFinding → List PlanFinding
 once_after told [] = []
 once_after told (x ∷ xs) = if told && is_newer x then once_after told xs else x ∷ once_after (told || is_newer x) xs
 
 -- Findings that each have a cause of their own: the first of a key that only version 2 has, and all others.
-abbrev pub told_once : List Finding → List Finding
+abbrev pub told_once : List PlanFinding → List PlanFinding
 told_once all = once_after false all
 
 -- all findings of a document, ordered by the number of the fault, then by the order of the tables
-abbrev pub findings : Members → List Finding
+abbrev pub findings : Members → List PlanFinding
 findings document = by_fault (told_once (value_findings document ++ plan_findings (cells_of document)))
 
 -- the most findings that are kept, and have a line each

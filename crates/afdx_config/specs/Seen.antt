@@ -6,9 +6,9 @@ use Rattle.afdx_plan.specs.PlanFaults.{Cells}
 use Rattle.afdx_plan.specs.Plan.{IsLink, IsPort}
 use Rattle.afdx_plan.specs.Config.{Plan, plan_of_parts}
 use Rattle.afdx_config.specs.Cells.{link_of, port_of}
-use Rattle.afdx_config.specs.Findings.{Finding, by_fault, is_newer, lines_limit, number_of, told_once}
+use Rattle.afdx_config.specs.Findings.{PlanFinding, by_fault, is_newer, lines_limit, number_of, told_once}
 use Rattle.afdx_config.specs.declared.rows.Rows.{Rows}
-use Rattle.afdx_config.specs.declared.findings.Finding.{Finding as Written}
+use Rattle.afdx_config.specs.declared.findings.PlanFinding.{PlanFinding as Written}
 use Rattle.afdx_config.specs.declared.findings.Found.{Found}
 use Rattle.toml.specs.Data.{Members}
 use Rattle.toml.specs.View.{table_view}
@@ -18,7 +18,7 @@ use Rattle.afdx_config.specs.declared.format.Field.{Field as WrittenField}
 use Rattle.afdx_config.specs.declared.document.Document.{Document}
 
 -- the finding
-abbrev pub finding_of : Written → Finding
+abbrev pub finding_of : Written → PlanFinding
 finding_of written = record {
   fault = written.fault;
   place = written.place;
@@ -27,7 +27,7 @@ finding_of written = record {
 }
 
 -- the fault of the first finding
-abbrev pub fault_of : List Finding → Option ConfigFault
+abbrev pub fault_of : List PlanFinding → Option ConfigFault
 fault_of [] = None
 fault_of (x ∷ xs) = Some x.fault
 
@@ -50,27 +50,27 @@ pub record AreInRange (rows : Rows) : Type 0 where
   pub ports : All (λ row. IsPort (port_of row)) rows.ports.items
 
 -- no fault has a greater number than one after it
-abbrev pub IsOrdered : List Finding → Type 0
+abbrev pub IsOrdered : List PlanFinding → Type 0
 IsOrdered [] = ⊤
 IsOrdered (x ∷ xs) = AllByRecursion (λ y. number_of x ≤ number_of y) xs × IsOrdered xs
 
 -- the first 1,000 of these findings by the numbers of their faults are kept, and all are counted
-pub record Keeps (found : Found) (told : List Finding) : Type 0 where
+pub record Keeps (found : Found) (told : List PlanFinding) : Type 0 where
   pub first_are : map finding_of found.first.items ≡ take lines_limit (by_fault told)
   pub count_is : found.count ≡ length told
 
 -- a finding was added to the kept ones
-abbrev pub KeepsOne : Found → Found → Finding → Type 0
-KeepsOne old new x = (told : List Finding) → Keeps old told → Keeps new (told ++ x ∷ [])
+abbrev pub KeepsOne : Found → Found → PlanFinding → Type 0
+KeepsOne old new x = (told : List PlanFinding) → Keeps old told → Keeps new (told ++ x ∷ [])
 
 -- the findings that have a cause of their own are kept
-pub record Holds (found : Found) (all : List Finding) : Type 0 where
+pub record Holds (found : Found) (all : List PlanFinding) : Type 0 where
   pub keeps : Keeps found (told_once all)
   pub newer_is : found.has_newer ≡ list_any is_newer all
 
 -- the findings `more` were added
-abbrev pub Adds : Found → Found → List Finding → Type 0
-Adds old new more = (all : List Finding) → Holds old all → Holds new (all ++ more)
+abbrev pub Adds : Found → Found → List PlanFinding → Type 0
+Adds old new more = (all : List PlanFinding) → Holds old all → Holds new (all ++ more)
 
 -- the field of the specification
 abbrev pub field_of : WrittenField → Field

@@ -6,7 +6,7 @@ ghost use Rattle.afdx_config.specs.Explained.{column_after, line_of, Explains, H
 ghost use Rattle.afdx_config.specs.Seen.{finding_of};
 
 use crate::document::Document;
-use crate::findings::{Finding, Found, Place, add};
+use crate::findings::{Found, Place, PlanFinding, add};
 use crate::layout::lines_of_findings;
 use crate::plan_findings::add_all;
 use crate::told::text_of;
@@ -25,7 +25,7 @@ const CURLED: &str = "this quote is a word processor's, and a plain one is wante
 #[derive(Debug, Drop)]
 pub struct Explanation {
     /// The first 1,000, ordered by the number of the fault, then by the order of the tables in the text.
-    pub findings: Vec<Finding>,
+    pub findings: Vec<PlanFinding>,
     /// The number of all findings.
     pub count: usize,
     /// A line with the number of findings, a line for each of the first 1,000, and if there are more a line

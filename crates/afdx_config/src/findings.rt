@@ -25,7 +25,7 @@ pub enum Place {
 
 /// A fault and its place.
 #[derive(Debug, Drop)]
-pub struct Finding {
+pub struct PlanFinding {
     pub fault: ConfigFault,
     pub place: Place,
     /// The key that is missing or unknown, or whose value has the fault. For `Toml`, the message of the
@@ -52,7 +52,7 @@ pub(crate) const LINES_LIMIT: usize = 1_000;
 /// The findings so far: the first `LINES_LIMIT` by the numbers of their faults, and the number of all.
 #[derive(Drop)]
 pub(crate) struct Found {
-    pub first: Vec<Finding>,
+    pub first: Vec<PlanFinding>,
     pub count: usize,
     // a key that only version 2 has was told as unknown
     pub has_newer: bool,
@@ -78,7 +78,7 @@ impl Found {
 pub(crate) type Added = Result<(), AllocError>;
 
 /// Returns the number of the findings whose faults have no greater number than `fault`.
-fn index_of(first: &[Finding], fault: ConfigFault) -> usize
+fn index_of(first: &[PlanFinding], fault: ConfigFault) -> usize
     ensures { result ≡ count_by (λ f. nat_le (fault_number f.fault) (fault_number fault)) first.now }
 {
     let number = fault.number();
@@ -139,7 +139,7 @@ fn add_one(
         return Ok(());
     }
     let key = String::from_str(found.alloc(), key)?;
-    let finding = Finding {
+    let finding = PlanFinding {
         fault,
         place,
         key,

@@ -1,6 +1,6 @@
 //! The lines at which the tables and keys of a text begin. They are known of a text in the usual form: each header and
 //! each key begins a line, and each value ends on its line. From the first line of another form on, none is known.
-use crate::findings::{Place, Finding};
+use crate::findings::{Place, PlanFinding};
 use std::alloc::{AllocError, Global};
 use std::collections::BTreeMap;
 use std::str;
@@ -162,7 +162,7 @@ fn table_at(place: Place) -> TableName {
 
 /// Returns the line of a finding: of its place if the text stops being TOML there, of its key, or else of its table's
 /// header.
-fn line_of<'a>(lines: &Lines<'a>, finding: &'a Finding) -> Option<usize> {
+fn line_of<'a>(lines: &Lines<'a>, finding: &'a PlanFinding) -> Option<usize> {
     if let Place::Text(line, _) = finding.place {
         return Some(line);
     }
@@ -186,7 +186,7 @@ pub fn id_line(alloc: Global, text: &[u8], place: Place) -> Result<Option<usize>
 pub(crate) fn lines_of_findings<'a>(
     alloc: Global,
     text: &'a [u8],
-    findings: &'a [Finding],
+    findings: &'a [PlanFinding],
 ) -> Result<Vec<Option<usize>>, AllocError> {
     let lines = lines_of(alloc, text)?;
     let mut found = Vec::new(alloc);

@@ -19,6 +19,6 @@ pub use afdx_plan::{
     Networks, PORTS_LIMIT, PortId, PortPlan, SUB_PORTS_LIMIT, UdpSum, VlId, demo_config, jitter_ns,
 };
 pub use explaining::{Explanation, explain, explain_file};
-pub use findings::{Finding, Place};
+pub use findings::{Place, PlanFinding};
 pub use layout::id_line;
 pub use read::{config_of, read_config};

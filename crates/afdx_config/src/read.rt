@@ -6,7 +6,7 @@ ghost use Rattle.afdx_plan.specs.Plan.{IsLink, IsPort};
 ghost use Rattle.afdx_plan.specs.PlanFaults.{whole};
 ghost use Rattle.afdx_config.specs.Cells.{plan_of};
 ghost use Rattle.afdx_config.specs.Faults.{IsPlanOf, IsLeastFault, IsLeastShown};
-ghost use Rattle.afdx_config.specs.Findings.{Finding, by_fault, findings, told_once};
+ghost use Rattle.afdx_config.specs.Findings.{PlanFinding, by_fault, findings, told_once};
 ghost use Rattle.afdx_config.specs.Seen.{AreInRange, Holds, cells_in, fault_of, IsDocument, data_of, plan_in};
 
 use crate::document::Document;
@@ -19,7 +19,7 @@ use std::alloc::{AllocError, Global};
 /// Returns the fault of the first finding.
 #[tactic(auto, using(crate::proofs::FirstLemmas::first_kept))]
 fn least_fault(found: &Found) -> Option<ConfigFault>
-    ensures { (all : List Finding) → Holds found.now all → result ≡ fault_of (by_fault (told_once all)) }
+    ensures { (all : List PlanFinding) → Holds found.now all → result ≡ fault_of (by_fault (told_once all)) }
 {
     match found.first.as_slice() {
         [] => None,

@@ -4,7 +4,7 @@ ghost use Rattle.afdx_config.specs.Explained.{HasLines, count_line, rest_line};
 ghost use Rattle.afdx_config.specs.Findings.{lines_limit};
 
 use crate::document::{Document, is_version_2};
-use crate::findings::{Finding, Found, LINES_LIMIT, Place, row_like};
+use crate::findings::{Found, LINES_LIMIT, Place, PlanFinding, row_like};
 use crate::format::{Content, DOCUMENT, END, Field, field_named, key_fault};
 use crate::reading::value_at;
 use crate::rows::Row;
@@ -112,7 +112,7 @@ fn fields_at(is_2: bool, place: Place) -> &'static [Field] {
 }
 
 /// Returns the content of a finding's key.
-fn content_at(document: &Document<'_>, finding: &Finding) -> Option<Content> {
+fn content_at(document: &Document<'_>, finding: &PlanFinding) -> Option<Content> {
     let fields = fields_at(is_version_2(document), finding.place);
     field_named(fields, finding.key.as_str()).map(|field| field.1)
 }
@@ -144,7 +144,7 @@ fn kind_text(content: Content) -> &'static str {
 }
 
 /// Writes why a key is unknown: it is one of version 2 alone, which is told once, or the format lacks it.
-fn write_known(out: &mut Text, document: &Document<'_>, finding: &Finding) -> Result<()> {
+fn write_known(out: &mut Text, document: &Document<'_>, finding: &PlanFinding) -> Result<()> {
     let latest = fields_at(true, finding.place);
     if key_fault(latest, finding.key.as_str()).is_none() {
         out.write_all(b"only if version = 2")?;
@@ -210,7 +210,7 @@ fn write_bound(
 fn write_brackets(
     out: &mut Text,
     document: &Document<'_>,
-    finding: &Finding,
+    finding: &PlanFinding,
     content: Content,
 ) -> Result<()> {
     let key = finding.key.as_str();
@@ -221,7 +221,7 @@ fn write_brackets(
 }
 
 /// Writes the values that are allowed at the key of a finding.
-fn write_allowed(out: &mut Text, document: &Document<'_>, finding: &Finding) -> Result<()> {
+fn write_allowed(out: &mut Text, document: &Document<'_>, finding: &PlanFinding) -> Result<()> {
     let content = content_at(document, finding);
     let link = finding.other;
     match (finding.fault, content) {
@@ -254,7 +254,7 @@ fn same_text(fault: ConfigFault) -> Option<&'static str> {
 }
 
 /// Writes a finding of two tables and the values that they share, or of one table, its value and the allowed ones.
-fn write_faulty(out: &mut Text, document: &Document<'_>, finding: &Finding) -> Result<()> {
+fn write_faulty(out: &mut Text, document: &Document<'_>, finding: &PlanFinding) -> Result<()> {
     let Some(same) = same_text(finding.fault) else {
         write_subject(out, document, finding.place, finding.key.as_str())?;
         out.write_all(b": ")?;
@@ -269,7 +269,11 @@ fn write_faulty(out: &mut Text, document: &Document<'_>, finding: &Finding) -> R
 }
 
 /// Writes the line of a finding of a document, or of a text that stops being TOML.
-fn write_finding(out: &mut Text, document: Option<&Document<'_>>, finding: &Finding) -> Result<()> {
+fn write_finding(
+    out: &mut Text,
+    document: Option<&Document<'_>>,
+    finding: &PlanFinding,
+) -> Result<()> {
     let number = finding.fault.number();
     write!(out, "{number} {}: ", finding.fault)?;
     match (finding.place, document) {
@@ -294,7 +298,7 @@ fn write_origin(out: &mut Text, name: &str, line: Option<usize>) -> Result<()> {
 fn lines_of(
     alloc: Global,
     document: Option<&Document<'_>>,
-    findings: &[Finding],
+    findings: &[PlanFinding],
     name: Option<&str>,
     lines: &[Option<usize>],
 ) -> Result<Text> {

@@ -5,7 +5,7 @@ use Rattle.afdx_plan.specs.declared.link_plan.LinkPlan.{LinkPlan}
 use Rattle.afdx_plan.specs.declared.port_plan.PortPlan.{PortPlan}
 use Rattle.afdx_frame.specs.declared.net.Net.{Net}
 use Rattle.afdx_handle.specs.EndSystem.{EndView, made_for, made_at}
-use Rattle.afdx_config.specs.Findings.{Finding}
+use Rattle.afdx_config.specs.Findings.{PlanFinding}
 use Rattle.afdx_config.specs.Explained.{Explains}
 
 -- a list with these elements written over its front
@@ -45,7 +45,7 @@ bytes_of frames = length (concat frames)
 
 -- the explanation of the text has `size` bytes, and as many of them as fit were written over the buffer's front
 pub record IsExplainedIn (text old new : List ℕ) (size : ℕ) : Type 0 where
-  pub first : List Finding
+  pub first : List PlanFinding
   pub count : ℕ
   pub told : List ℕ
   pub explains : Explains text first count told

@@ -4,7 +4,7 @@ use Rattle.std.proofs.lemmas.List.{take_all, length-take}
 use Rattle.std.specs.Prelude.{option_map}
 use Rattle.std.specs.Io.KnownBytes.{Appends}
 use Rattle.afdx_config.specs.Explained.{Explains}
-use Rattle.afdx_config.specs.Findings.{Finding}
+use Rattle.afdx_config.specs.Findings.{PlanFinding}
 use Rattle.bench_words.specs.Reading.{TellsFaults, end_of}
 use Rattle.bench_words.specs.declared.status.End.{End}
 
@@ -29,7 +29,7 @@ whole_text known inner limit most old text at_most at_inner at_old is few =
     within_limit known limit text
     (subst (λ o. IfSome (option_map (take (limit + 1)) known) (λ bytes. text ≡ o ++ bytes)) at_old second) few
 
-pub tells_faults : (known : Option (List ℕ)) (text slice told bytes : List ℕ) (first : List Finding) (count : ℕ) (end : End)
+pub tells_faults : (known : Option (List ℕ)) (text slice told bytes : List ℕ) (first : List PlanFinding) (count : ℕ) (end : End)
     (old new : Option (List ℕ)) → IfSome known (λ all. text ≡ all) → slice ≡ text → Explains slice first count told
     → end ≡ end_of count → bytes ≡ told → Appends old new bytes → IfSome known (λ all. TellsFaults all end old new)
 tells_faults None text slice told bytes first count end old new whole at explained ends same wrote = tt

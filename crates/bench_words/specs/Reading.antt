@@ -10,7 +10,7 @@ use Rattle.afdx_plan.specs.Config.{Plan}
 use Rattle.afdx_config.specs.Faults.{IsPlanOf, IsLeastFault}
 use Rattle.afdx_plan.specs.declared.fault.ConfigFault.TheVariants.{Memory}
 use Rattle.afdx_config.specs.Explained.{Explains}
-use Rattle.afdx_config.specs.Findings.{Finding}
+use Rattle.afdx_config.specs.Findings.{PlanFinding}
 use Rattle.script_text.specs.declared.faults.RunFault.TheVariants as Ran
 
 -- the most bytes of a text that is read: 16 MiB
@@ -36,7 +36,7 @@ end_of count = if count == 0 then Told else FaultsTold
 
 -- the findings of a text were written
 pub record TellsFaults (text : List ℕ) (end : End) (old new : Option (List ℕ)) : Type 0 where
-  pub first : List Finding
+  pub first : List PlanFinding
   pub count : ℕ
   pub told : List ℕ
   pub explained : Explains text first count told

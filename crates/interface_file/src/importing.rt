@@ -6,7 +6,7 @@ use crate::columns::{Column, END_SYSTEM, LMAX, SUB_VLS, Subject, VL, column_at, 
 use crate::faults::{DocumentFault, Faults, Wrong, seen};
 use crate::plan_text::{is_identifier, links_of, plan_text};
 use crate::reading::{Document, PortCells, read_document};
-use afdx_config::{Explanation, Finding, Place, explain, read_config};
+use afdx_config::{Explanation, Place, PlanFinding, explain, read_config};
 use afdx_plan::{ConfigFault, LINKS_LIMIT};
 use interface_sheet::{Others, quoted};
 use std::alloc::{AllocError, Global};
@@ -171,7 +171,7 @@ fn add_findings(
 fn cell_of<'a>(
     rows: &'a [PortCells],
     links: &[usize],
-    finding: &Finding,
+    finding: &PlanFinding,
 ) -> Option<(&'a PortCells, usize)> {
     let key = finding.key.as_str();
     match finding.place {
@@ -193,7 +193,7 @@ fn wrong_of(
     alloc: Global,
     rows: &[PortCells],
     links: &[usize],
-    finding: &Finding,
+    finding: &PlanFinding,
     row: &PortCells,
     place: usize,
 ) -> Result<Wrong, AllocError> {

@@ -1,4 +1,4 @@
-use Rattle.afdx_config.proofs.Names.{◌≡◌, ◌||◌, ◌&&◌, false, arith, sym, ◌∙◌, refl, found, nat_tests, Finding, is_newer}
+use Rattle.afdx_config.proofs.Names.{◌≡◌, ◌||◌, ◌&&◌, false, arith, sym, ◌∙◌, refl, found, nat_tests, PlanFinding, is_newer}
 use Rattle.afdx_config.proofs.OnceLemmas.{adds_none, adds_told}
 use Rattle.afdx_config.proofs.findings.add.Goals as goal
 use Rattle.afdx_config.proofs.findings.add.Goals.{else-found-via-then-found+else-is_newer, else-found-via-else-found, then-found-2, else-found-2}
@@ -8,7 +8,7 @@ returns-then-is_newer c = adds_none _ _ _ c.if-found.true (sym c.is_newer-is_new
 
 pub returns : goal.returns
 returns c =
-    let x : Finding = found c.args.fault c.args.place c.args.key.now c.args.other in
+    let x : PlanFinding = found c.args.fault c.args.place c.args.key.now c.args.other in
     let own : (c.args.found.now.has_newer && is_newer x) ≡ false = elim c.else-found.branch [
       | else-found-via-then-found+else-is_newer w ↦ grind (arith, nat_tests, c.is_newer-is_newer.ensures)
       | else-found-via-else-found w ↦ grind (arith, nat_tests)

@@ -1,4 +1,4 @@
-use Rattle.afdx_config.proofs.Names.{refl, rules, ap, map, take, finding_of, ◌∙◌, insert, found, lines_limit}
+use Rattle.afdx_config.proofs.Names.{refl, rules, ap, map, take, finding_of, ◌∙◌, insert, lines_limit}
 use Rattle.afdx_config.proofs.OrderLemmas.{adds_put, adds_past, map_insert}
 use Rattle.afdx_config.proofs.findings.add_one.Goals as goal
 
