@@ -50,19 +50,19 @@ abbrev is_too_long : List LinkPlan → PortPlan → Bool
 is_too_long links port = misfits true (link_row_of links port) TooLong (port_whole port)
 
 -- tests of the rows of a plan
-any_map : {A B : Type 0} (p : B → Bool) (f : A → B) (xs : List A) → list_any p (map f xs) ≡ list_any (λ x. p (f x)) xs
+pub any_map : {A B : Type 0} (p : B → Bool) (f : A → B) (xs : List A) → list_any p (map f xs) ≡ list_any (λ x. p (f x)) xs
 any_map p f [] = refl
 any_map p f (x ∷ xs) = ap (λ b. p (f x) || b) (any_map p f xs)
 
-pair_map : {A B : Type 0} (r : B → B → Bool) (f : A → B) (xs : List A) → has_pair r (map f xs) ≡ has_pair (λ a b. r (f a) (f b)) xs
+pub pair_map : {A B : Type 0} (r : B → B → Bool) (f : A → B) (xs : List A) → has_pair r (map f xs) ≡ has_pair (λ a b. r (f a) (f b)) xs
 pair_map r f [] = refl
 pair_map r f (x ∷ xs) = rw (any_map (r (f x)) f xs, pair_map r f xs) refl
 
-named_all : (links : List LinkPlan) → list_any (λ (link : LinkPlan). is_none (link_whole link).id) links ≡ false
+pub named_all : (links : List LinkPlan) → list_any (λ (link : LinkPlan). is_none (link_whole link).id) links ≡ false
 named_all [] = refl
 named_all (x ∷ xs) = named_all xs
 
-counted : (ports : List PortPlan) (port : PortPlan) → count_by (on_sub_of (port_whole port)) (map port_whole ports) ≡ ports_on ports port.vl.0 port.sub
+pub counted : (ports : List PortPlan) (port : PortPlan) → count_by (on_sub_of (port_whole port)) (map port_whole ports) ≡ ports_on ports port.vl.0 port.sub
 counted ports port = grind (arith, nat_tests, fold-map)
 
 -- no element passes a test that none passes

@@ -5,7 +5,7 @@ use Rattle.afdx_plan.proofs.PlanLemmas.{faultless}
 use Rattle.plan_table.specs.Table.{IsTableOf}
 use Rattle.plan_table.specs.Laws.{TablesAreRead, TablesDiffer}
 use Rattle.plan_table.proofs.ReadLemmas.{no_fault, table_back}
-use Rattle.afdx_config.specs.Faults.{IsLeastShown}
+use Rattle.plan_table.specs.Rules.{IsLeastShown}
 use Rattle.afdx_plan.specs.declared.fault.ConfigFault.{ConfigFault}
 use Rattle.afdx_plan.specs.declared.fault.ConfigFault.TheVariants.{Toml, MissingKey, UnknownKey, WrongKind, OutOfRange, BadBag, DuplicateVl, DuplicatePort, NoSuchVl, NoSuchSub, SamplingTooLong, SameFlow, SharedUnicast, Limit, Memory}
 use Rattle.plan_table.specs.declared.fault.TableFault.TheVariants.{Plan as OfPlan, NoTable, OtherLayout, WrongLength, WrongSum, WrongValue}

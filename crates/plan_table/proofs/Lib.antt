@@ -1,3 +1,4 @@
 pub mod CellLemmas
 pub mod ReadLemmas
+pub mod RuleLemmas
 pub mod LawLemmas

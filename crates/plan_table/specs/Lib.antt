@@ -1,4 +1,5 @@
 pub mod Table
 pub mod Sum
 pub mod Reading
+pub mod Rules
 pub mod Laws

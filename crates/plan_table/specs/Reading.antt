@@ -15,7 +15,7 @@ use Rattle.afdx_plan.specs.declared.port_plan.UdpSum.{UdpSum}
 use Rattle.afdx_plan.specs.declared.port_plan.Kind.TheVariants.{Sampling, Queuing}
 use Rattle.afdx_plan.specs.declared.port_plan.PortPlan.{PortPlan}
 use Rattle.afdx_plan.specs.declared.port_plan.UdpSum.TheVariants.{Omitted, Generated}
-use Rattle.afdx_config.specs.Faults.{IsLeastShown}
+use Rattle.plan_table.specs.Rules.{IsLeastShown}
 use Rattle.plan_table.specs.Table.{IsTableOf}
 use Rattle.plan_table.specs.declared.fault.TableFault.{TableFault}
 use Rattle.plan_table.specs.declared.fault.TableFault.TheVariants.{Plan as OfPlan, NoTable, OtherLayout, WrongLength, WrongSum, WrongValue}

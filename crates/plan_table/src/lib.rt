@@ -5,6 +5,7 @@ mod fault;
 pub mod laws;
 mod part;
 mod read;
+mod rules;
 mod sum;
 mod write;
 

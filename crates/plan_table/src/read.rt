@@ -6,9 +6,9 @@ ghost use Rattle.plan_table.specs.Reading.{cells_of, ends, HasLength, IsFaultOf,
 
 use crate::fault::TableFault;
 use crate::part::{Part, cell};
+use crate::rules::first_fault;
 use crate::sum::crc_32;
 use crate::write::{FRONT, TABLE_LAYOUT, write_parts};
-use afdx_config::config_of;
 use afdx_plan::{Config, ConfigFault, LinkPlan, PortPlan};
 use std::alloc::{AllocError, Global};
 
@@ -112,8 +112,8 @@ pub fn read_table(alloc: Global, bytes: &[u8]) -> Result<Config, TableFault>
     if table.as_slice() != bytes {
         return Err(TableFault::WrongValue);
     }
-    match config_of(alloc, end_system, links, ports) {
-        Ok(config) => Ok(config),
-        Err(fault) => Err(TableFault::Plan(fault)),
+    match first_fault(links.as_slice(), ports.as_slice()) {
+        None => Ok(Config::new(end_system, links, ports)),
+        Some(fault) => Err(TableFault::Plan(fault)),
     }
 }

@@ -4,6 +4,7 @@ use Rattle.afdx_plan.specs.Config.{plan_of_parts}
 use Rattle.plan_table.specs.Table.{IsInRange, table_of}
 use Rattle.plan_table.specs.Reading.{cells_of, links_from, ports_from}
 use Rattle.plan_table.proofs.ReadLemmas.{no_table}
+use Rattle.plan_table.proofs.RuleLemmas.{first_is_least, whole_is_valid}
 use Rattle.plan_table.proofs.read.read_table.Goals as goal
 
 pub returns-then-ne-clause-fault : goal.returns-then-ne-clause-fault
@@ -17,8 +18,12 @@ returns-then-ne-clause-fault c =
     let differ : c.in-Ok-write_parts.table.items ≡ bytes → ⊥ = λ same. grind (arith, bytes_eq-Decides) in
     (search rules, search rules, λ other. no_table bytes c.in-Ok-write_parts.table.items plan other of end links ports differ)
 
-pub returns-clause-fault : goal.returns-clause-fault
-returns-clause-fault c = λ real.
+pub new-requires : goal.new-requires
+new-requires c = whole_is_valid (plan_of_parts c.cell-end_system.result c.in-Ok.links.items c.in-Ok.ports.items) (omega arith)
+    c.in-Ok.ensures.links.0 c.in-Ok.ensures.ports.0 (search rules)
+
+pub returns-in-Some-first_fault-clause-fault : goal.returns-in-Some-first_fault-clause-fault
+returns-in-Some-first_fault-clause-fault c = λ real.
     let bytes = c.args.bytes.now in
     let plan = plan_of_parts c.cell-end_system.result c.in-Ok.links.items c.in-Ok.ports.items in
     let of : c.in-Ok-write_parts.table.items ≡ table_of plan = search rules in
@@ -30,4 +35,4 @@ returns-clause-fault c = λ real.
       few_links = c.in-Ok.ensures.links.1;
       few_ports = c.in-Ok.ensures.ports.1;
     } in
-    (plan, record { ranges = ranges; table = same ∙ of }, c.in-Err.ensures.fault real)
+    (plan, record { ranges = ranges; table = same ∙ of }, first_is_least plan c.in-Some-first_fault.fault (search rules))
