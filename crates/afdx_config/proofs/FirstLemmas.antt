@@ -1,5 +1,5 @@
 -- The first finding has the fault of the least number, and so has the text.
-use Rattle.afdx_config.proofs.Names.{Bool, ◌≡◌, ◌≢◌, ℕ, ◌<◌, List, [], ◌∷◌, ◌++◌, true, false, Some, None, refl, ap, subst, ◌∙◌, arith, eq-eqb, list_any, same_Some, Result, Ok, Err, IfOk, IfErr, Members, map, nat_tests, fault_number, cells_of, ConfigFault, Memory, Plan, plan_of, shows, Reads, HasFault, IsLeastFault, IsLeastShown, IsPlanOf, plan_shows, whole, sym, PlanFinding, finding_of, findings, has, FirstIsAnswered, by_fault, number_of, plan_findings, value_findings, Holds, IsOrdered, fault_of, Kept, told_once}
+use Rattle.afdx_config.proofs.Names.{Bool, ◌≡◌, ◌≢◌, ℕ, ◌<◌, List, [], ◌∷◌, ◌++◌, true, false, Some, None, refl, ap, subst, ◌∙◌, arith, eq-eqb, list_any, same_Some, Result, Ok, Err, IfOk, IfErr, Members, map, nat_tests, fault_number, cells_of, ConfigFault, Memory, Plan, plan_of, shows, Reads, HasFault, IsLeastFault, IsPlanOf, plan_shows, whole, sym, PlanFinding, finding_of, findings, has, FirstIsAnswered, by_fault, number_of, plan_findings, value_findings, Holds, IsOrdered, fault_of, Kept, told_once}
 use Rattle.afdx_config.proofs.OnceLemmas.{any_once, no_once}
 use Rattle.afdx_config.proofs.OrderLemmas.{any_by_fault, are_ordered, no_finding, r_map}
 use Rattle.afdx_config.proofs.ShownLemmas.{faults_are_found, no_toml, none_has, plan_shown}
@@ -61,17 +61,6 @@ first_kept found all holds = let are = holds.keeps.first_are in grind (arith, na
 
 pub no_first : (xs : List PlanFinding) → fault_of xs ≡ None → xs ≡ []
 no_first xs is = grind (arith, nat_tests)
-
--- the first finding of a plan's rules has the least fault that it shows
-pub least_shown : (plan : Plan) (fault : ConfigFault) → fault_of (by_fault (told_once (plan_findings (whole plan)))) ≡ Some fault → IsLeastShown fault plan
-least_shown plan fault is = here (by_fault (told_once (plan_findings (whole plan)))) refl is
-  where
-    shown : (f : ConfigFault) → plan_shows f plan ≡ list_any (has f) (by_fault (told_once (plan_findings (whole plan))))
-    shown f = sym (plan_shown f (whole plan)) ∙ sym (any_by_fault (has f) (told_once (plan_findings (whole plan))) ∙ any_once f (plan_findings (whole plan)))
-
-    here : (xs : List PlanFinding) → by_fault (told_once (plan_findings (whole plan))) ≡ xs → fault_of xs ≡ Some fault → IsLeastShown fault plan
-    here [] all at = cc
-    here (x ∷ rest) all at = rw (← same_Some x.fault fault at) (least_of (λ f. plan_shows f plan) (told_once (plan_findings (whole plan))) x rest all shown)
 
 -- without findings, values have none
 pub no_value : (doc : Members) → findings doc ≡ [] → value_findings doc ≡ []

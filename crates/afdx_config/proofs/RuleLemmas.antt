@@ -76,9 +76,3 @@ pub fine : (doc : Members) (rows : Rows) → plan_in rows ≡ plan_of doc → ro
 fine doc rows same end fits free = valid (plan_in rows) end (All-map IsLink link_of _ fits.links) (All-map IsPort port_of _ fits.ports)
     (no_rule (plan_in rows) plan_rules (λ f. ap (plan_shows f) same ∙ sym (rules_agree doc (λ g. ap (list_any (has g)) (no_value doc free)) f)
     ∙ faults_are_found doc f ∙ ap (list_any (has f)) free))
-
--- a plan whose rules find nothing is valid if it is in its ranges
-pub fine_parts : (plan : Plan) → plan.end_system < 65536 → All IsLink plan.links → All IsPort plan.ports
-    → by_fault (told_once (plan_findings (whole plan))) ≡ [] → IsPlan plan
-fine_parts plan end links ports free = valid plan end links ports
-    (no_rule plan plan_rules (λ f. sym (plan_shown f (whole plan)) ∙ ap (list_any (has f)) (no_once _ (no_finding _ free))))

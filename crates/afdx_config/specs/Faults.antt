@@ -4,7 +4,7 @@ use Rattle.std.specs.List.{list_any}
 use Rattle.toml.specs.Data.{Members}
 use Rattle.toml.specs.Parse.{parse_document}
 use Rattle.afdx_plan.specs.Config.{Plan}
-use Rattle.afdx_plan.specs.PlanFaults.{cells_show, fault_number, plan_shows}
+use Rattle.afdx_plan.specs.PlanFaults.{cells_show, fault_number}
 use Rattle.afdx_config.specs.Cells.{cells_of, plan_of}
 use Rattle.afdx_config.specs.Findings.{has, value_findings}
 use Rattle.afdx_plan.specs.declared.fault.ConfigFault.{ConfigFault}
@@ -31,11 +31,6 @@ HasFault fault text = (document : Members) × Reads text document × (shows faul
 abbrev pub IsLeastFault : List ℕ → ConfigFault → Type 0
 IsLeastFault text fault = HasFault fault text
     × ((other : ConfigFault) → fault_number other < fault_number fault → ¬ HasFault other text)
-
--- the fault of the least number that a plan has
-abbrev pub IsLeastShown : ConfigFault → Plan → Type 0
-IsLeastShown fault plan = (plan_shows fault plan ≡ true)
-    × ((other : ConfigFault) → fault_number other < fault_number fault → plan_shows other plan ≡ false)
 
 -- the text has no fault, and this is its plan
 abbrev pub IsPlanOf : List ℕ → Plan → Type 0

@@ -21,4 +21,4 @@ pub use afdx_plan::{
 pub use explaining::{Explanation, explain, explain_file};
 pub use findings::{Place, PlanFinding};
 pub use layout::id_line;
-pub use read::{config_of, read_config};
+pub use read::read_config;

@@ -1,19 +1,17 @@
 //! Reading a plan.
 ghost use Rattle.std.specs.Prelude.{◌≡◌, ◌≢◌, All, List, Some, [], map, IfOk, IfErr};
 ghost use Rattle.afdx_plan.specs.declared.fault.ConfigFault.{ConfigFault};
-ghost use Rattle.afdx_plan.specs.Config.{IsPlan, plan_of_parts};
-ghost use Rattle.afdx_plan.specs.Plan.{IsLink, IsPort};
-ghost use Rattle.afdx_plan.specs.PlanFaults.{whole};
+ghost use Rattle.afdx_plan.specs.Config.{IsPlan};
 ghost use Rattle.afdx_config.specs.Cells.{plan_of};
-ghost use Rattle.afdx_config.specs.Faults.{IsPlanOf, IsLeastFault, IsLeastShown};
+ghost use Rattle.afdx_config.specs.Faults.{IsPlanOf, IsLeastFault};
 ghost use Rattle.afdx_config.specs.Findings.{PlanFinding, by_fault, findings, told_once};
-ghost use Rattle.afdx_config.specs.Seen.{AreInRange, Holds, cells_in, fault_of, IsDocument, data_of, plan_in};
+ghost use Rattle.afdx_config.specs.Seen.{AreInRange, Holds, fault_of, IsDocument, data_of, plan_in};
 
 use crate::document::Document;
 use crate::findings::Found;
-use crate::plan_findings::{add_all, add_plan};
+use crate::plan_findings::add_all;
 use crate::rows::{Row, Rows};
-use afdx_plan::{Config, ConfigFault, LinkPlan, PortPlan};
+use afdx_plan::{Config, ConfigFault};
 use std::alloc::{AllocError, Global};
 
 /// Returns the fault of the first finding.
@@ -83,63 +81,4 @@ pub fn read_config(alloc: Global, text: &[u8]) -> Result<Config, ConfigFault>
         Err(error) if error.is_memory() => Err(ConfigFault::Memory),
         Err(_) => Err(ConfigFault::Toml),
     }
-}
-
-/// Converts the parts of a plan to rows.
-fn rows_of<R: Row>(alloc: Global, parts: &[R::Plan]) -> Result<Vec<R>, AllocError>
-    requires { All R.IsPart parts.now }
-    ensures { IfOk result (λ rows. rows.items ≡ map R.whole parts.now) }
-{
-    let mut rows = Vec::with_capacity(alloc, parts.len())?;
-    for part in parts {
-        rows.push(R::of(*part))?;
-    }
-    Ok(rows)
-}
-
-/// Makes a plan of links and ports whose numbers are in their ranges. Returns the fault of the least number, 7 to 14,
-/// that they have together. May return `Memory` instead of any result.
-pub fn config_of(
-    alloc: Global,
-    end_system: u16,
-    links: Vec<LinkPlan>,
-    ports: Vec<PortPlan>,
-) -> Result<Config, ConfigFault>
-    requires links { All IsLink links.items }
-    requires ports { All IsPort ports.items }
-    ensures plan { IfOk result (λ config. config ≡ plan_of_parts end_system links.items ports.items) }
-    ensures fault { IfErr result (λ fault. fault ≢ ConfigFault.Memory →
-        IsLeastShown fault (plan_of_parts end_system links.items ports.items)) }
-{
-    let mut found = Found::new(alloc);
-    let Ok(rows) = rows_of_parts(alloc, end_system, links.as_slice(), ports.as_slice()) else {
-        return Err(ConfigFault::Memory);
-    };
-    let Ok(()) = add_plan(&mut found, &rows) else {
-        return Err(ConfigFault::Memory);
-    };
-    match least_fault(&found) {
-        Some(fault) => Err(fault),
-        None => Ok(Config::new(end_system, links, ports)),
-    }
-}
-
-/// Makes the rows of a plan.
-fn rows_of_parts(
-    alloc: Global,
-    end_system: u16,
-    links: &[LinkPlan],
-    ports: &[PortPlan],
-) -> Result<Rows, AllocError>
-    requires links { All IsLink links.now }
-    requires ports { All IsPort ports.now }
-    ensures { IfOk result (λ rows. cells_in rows ≡ whole (plan_of_parts end_system links.now ports.now)) }
-{
-    Ok(Rows {
-        end_system,
-        links: rows_of(alloc, links)?,
-        ports: rows_of(alloc, ports)?,
-        has_links: true,
-        has_ports: true,
-    })
 }

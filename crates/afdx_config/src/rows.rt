@@ -10,7 +10,6 @@ ghost use Rattle.afdx_config.specs.Format.{Field as Key, link_fields, port_field
 ghost use Rattle.afdx_config.specs.Seen.{Adds, field_of, AreInRange, cells_in, IsDocument, data_of};
 ghost use Rattle.afdx_config.specs.Tables.{content_fault, number_under, value_at, section_at};
 ghost use Rattle.afdx_plan.specs.Plan.{IsLink, IsPort};
-ghost use Rattle.afdx_plan.specs.PlanFaults.{link_whole, port_whole};
 ghost use Rattle.std.specs.Option.{option_map_or};
 ghost use Rattle.afdx_config.specs.declared.findings.Place.TheVariants.{Top, EndSystem};
 
@@ -103,10 +102,6 @@ pub(crate) trait Row: Copy {
 
     ghost Fits: { Self → Type 0 };
 
-    ghost whole: { Self.Plan → Self };
-
-    ghost IsPart: { Self.Plan → Type 0 };
-
     /// Returns the keys of the tables.
     fn fields(is_2: bool) -> &'static [Field]
         ensures { map field_of result.now ≡ format is_2 };
@@ -122,11 +117,6 @@ pub(crate) trait Row: Copy {
     fn plan(self) -> Self::Plan
         requires { Fits self }
         ensures { result ≡ plan_of self };
-
-    /// Returns the values of a part of a plan.
-    fn of(part: Self::Plan) -> Self
-        requires { IsPart part }
-        ensures { result ≡ whole part };
 }
 
 impl Row for LinkRow {
@@ -139,10 +129,6 @@ impl Row for LinkRow {
     ghost plan_of = { link_of };
 
     ghost Fits = { λ row. IsLink (link_of row) };
-
-    ghost whole = { link_whole };
-
-    ghost IsPart = { IsLink };
 
     fn fields(is_2: bool) -> &'static [Field] {
         if is_2 { &LINK } else { &LINK[..5] }
@@ -183,17 +169,6 @@ impl Row for LinkRow {
             networks: self.networks.unwrap_or(Networks::Both),
         }
     }
-
-    fn of(part: LinkPlan) -> LinkRow {
-        LinkRow {
-            id: Some(part.id.0),
-            bag: Some(part.bag),
-            lmax: Some(part.lmax.bytes()),
-            sub_vls: Some(u16::from(part.sub_vls)),
-            capacity: Some(part.capacity as u16),
-            networks: Some(part.networks),
-        }
-    }
 }
 
 impl Row for PortRow {
@@ -206,10 +181,6 @@ impl Row for PortRow {
     ghost plan_of = { port_of };
 
     ghost Fits = { λ row. IsPort (port_of row) };
-
-    ghost whole = { port_whole };
-
-    ghost IsPart = { IsPort };
 
     fn fields(is_2: bool) -> &'static [Field] {
         if is_2 { &PORT } else { &PORT[..9] }
@@ -261,21 +232,6 @@ impl Row for PortRow {
             max: usize::from(self.max.unwrap_or(1)),
             unicast: self.unicast.unwrap_or(None),
             checksum: self.checksum.unwrap_or(UdpSum::Omitted),
-        }
-    }
-
-    fn of(part: PortPlan) -> PortRow {
-        PortRow {
-            id: Some(part.id.0),
-            vl: Some(part.vl.0),
-            sub: Some(u16::from(part.sub)),
-            partition: Some(u16::from(part.partition)),
-            kind: Some(part.kind),
-            source: Some(part.source),
-            destination: Some(part.destination),
-            max: Some(part.max as u16),
-            unicast: Some(part.unicast),
-            checksum: Some(part.checksum),
         }
     }
 }
