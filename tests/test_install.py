@@ -39,7 +39,7 @@ share/doc/afdx/pictures/gap.svg share/doc/afdx/pictures/judge.svg share/doc/afdx
 share/afdx/examples/c/wire.toml
 share/afdx/examples/c/demo.toml share/afdx/examples/c/example.c share/afdx/examples/cmake/CMakeLists.txt
 share/afdx/examples/cmake/main.c share/afdx/examples/cpp/main.cpp share/afdx/examples/bare/main.c
-share/afdx/examples/play/main.c share/afdx/examples/play/script.c share/afdx/examples/play/faults.c
+share/afdx/examples/play/main.c share/afdx/examples/play/script.c share/afdx/examples/play/faults.c share/afdx/examples/play/gaps.c
 share/afdx/examples/play/stamps.c share/afdx/examples/play/tell.c share/afdx/examples/play/wire.c share/afdx/examples/play/words.c share/afdx/examples/play/play.h
 share/afdx/examples/python/bench.py share/afdx/examples/python/main.py
 share/afdx/rust/Cargo.toml share/afdx/rust/build.rs share/afdx/rust/src/error.rs share/afdx/rust/src/lib.rs share/afdx/rust/src/raw.rs
@@ -139,7 +139,7 @@ def try_readers(tried):
     if not tried.lacks("clang-tidy", shutil.which("clang-tidy")):
         # (_GNU_SOURCE is reserved; two numbers beside each other are what the calls take)
         checks = "bugprone-*,performance-*,-bugprone-reserved-identifier,-bugprone-easily-swappable-parameters"
-        for source, version in (("c/example.c", "gnu11"), *((f"play/{it}.c", "gnu11") for it in ("main", "script", "faults", "wire")), ("cmake/main.c", "c99"),
+        for source, version in (("c/example.c", "gnu11"), *((f"play/{it}.c", "gnu11") for it in ("main", "script", "faults", "gaps", "wire")), ("cmake/main.c", "c99"),
                                 ("cpp/main.cpp", "c++11")):
             words = ["clang-tidy", "--quiet", "--header-filter=.*", "--warnings-as-errors=*", f"--checks=-*,{checks}", f"{tried.examples}/{source}"]
             read = tried.ran([*words, "--", f"-std={version}", f"-I{tried.prefix}/include"])

@@ -98,22 +98,37 @@ static size_t take_frames(struct play *play, struct network *network, uint64_t a
     return count;
 }
 
+/* Waits until a poll may come that is due: by the clock until it makes no gap short. Returns its time. */
+static uint64_t wait_for_poll(const struct play *play, uint64_t due) {
+    uint64_t at = due;
+    bool is_clear = !sleep_until(play, nanos_of(play, due)) || play->words.as_written;
+    while (!is_clear) {
+        uint64_t now = micros_now(play);
+        at = clear_time(play->sent, play->links, play->link_count, now > at ? now : at);
+        is_clear = at <= micros_now(play) || !sleep_until(play, nanos_of(play, at));
+    }
+    return at;
+}
+
 /* Polls once that a time has come, and sends the frames. Returns the number of afdx_poll. */
 static uint8_t poll_at(struct play *play, uint64_t due) {
     static struct frame frames[2][2 * AFDX_MOST_FRAMES];
+    size_t counts[2];
     uint8_t standing = 0;
     send_early(play, due);
-    if (!sleep_until(play, nanos_of(play, due))) return AFDX_OK;
-    uint64_t at = play->words.as_written || due > micros_now(play) ? due : micros_now(play);
+    uint64_t at = wait_for_poll(play, due);
+    if (stopped_by != 0) return AFDX_OK;
     uint8_t answer = afdx_poll(&play->tx.end_system, at, &standing);
     if (answer != AFDX_OK) return answer;
     play->last = at;
     for (int n = 0; n < 2; n++) {
         struct network *network = &play->networks[n];
-        size_t count = take_frames(play, network, at, frames[n]);
-        transmit(network, frames[n], count, &play->capture, play->offset);
+        counts[n] = take_frames(play, network, at, frames[n]);
+        transmit(network, frames[n], counts[n], &play->capture, play->offset);
         if (network->failed) afdx_fail(&play->tx.end_system, network->which);
     }
+    /* (the present time in whole microseconds, rounded up) */
+    for (int n = 0; n < 2; n++) note_sent(play->sent, frames[n], counts[n], micros_now(play) + 1);
     note_lateness(play, due);
     count_poll(play);
     return AFDX_OK;
@@ -221,6 +236,7 @@ static int read_all_texts(struct play *play) {
     if (!failed) script = read_text(&play->words, &script_length, &failed);
     if (script != NULL) failed = read_script(script, script_length, &play->script);
     if (!failed && has_to_rehearse(&play->words.faults)) failed = rehearse(play, text, length);
+    if (!failed && !play->words.as_written) failed = find_bags(play->sent, text, length);
     free(script);
     free(text);
     return failed;
@@ -266,6 +282,7 @@ static int run(struct play *play) {
     if (play->words.has_priority) ask_for_priority();
     for (size_t k = play->script.count; k > 0; k--)
         if (play->script.commands[k - 1].says.kind == AFDX_SAYS_AT) play->first = play->last = play->script.commands[k - 1].says.at;
+    afdx_links(&play->tx.end_system, play->links, AFDX_MOST_LINKS, &play->link_count);
     setvbuf(stdout, NULL, _IOFBF, BUFSIZ * 8);
     struct timespec day;
     clock_gettime(CLOCK_REALTIME, &day);

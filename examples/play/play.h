@@ -205,6 +205,23 @@ bool read_counters(const char *interface, struct counters *counters);
    frames. Returns how many of the frames that it took it didn't send, by its counters, and how far these went. */
 uint64_t find_losses(struct network *network, struct counters *counted);
 
+/* A link's BAG, the time of the last poll that made a frame of it, and a time at which the interfaces had that frame, in the
+ * script's microseconds. */
+struct sent {
+    uint64_t bag, polled, gone;
+};
+
+/* Finds the BAG of each link with a port, by an end system of its own. Links are the places in `sent`. Returns how the player
+ * ends if that fails, or 0. */
+int find_bags(struct sent *sent, const uint8_t *text, size_t length);
+
+/* Notes that the interfaces have these frames of a poll by the time `gone`. */
+void note_sent(struct sent *sent, const struct frame *frames, size_t count, uint64_t gone);
+
+/* The least time from `at` on, or one after it, at which no link is due whose gap a poll would make short on the wire. The library
+ * counts a BAG from the time of a poll, and the interfaces have its frames somewhat later. */
+uint64_t clear_time(const struct sent *sent, const uint16_t *links, size_t count, uint64_t at);
+
 /* How many polls' frames were sent how late, in microseconds rounded up. Those of a second and more count together, with the
  * greatest of all in nanoseconds. A run may last for days, so single polls aren't kept. */
 enum { MICROS = 1000000 };
@@ -222,6 +239,9 @@ struct play {
     struct capture capture;
     struct words words;
     uint64_t begun, offset, first, asked, last, shift;
+    uint16_t links[AFDX_MOST_LINKS];
+    size_t link_count;
+    struct sent sent[LINKS];
     struct lateness late;
     uint64_t pending, polls;
     size_t refused;
