@@ -241,6 +241,9 @@ def try_bare(tried):
     wanted = {"memcpy", "memmove", "memset", "rattle_alloc", "rattle_dealloc", "rattle_realloc"}
     imports = set(re.findall(r" U (\w+)", listed)) - {"__udivti3"}
     tried.tries.show("libafdx_core.a: what it has and imports", [] if not text and imports == wanted else [f"{text}, {imports}"])
+    written = re.findall(r" ([BbCDdGgSs]) (\S+)$", tried.ran(["nm", f"{tried.prefix}/lib/libafdx_core.a"]).stdout, re.MULTILINE)
+    registers = set(re.findall(r"%(?:[yz]mm|mm|st)\b|%(?:[yz]mm|mm)\d+", tried.ran(["objdump", "-d", f"{tried.prefix}/lib/libafdx_core.a"]).stdout))
+    tried.tries.show("libafdx_core.a: no data that is written, no other registers than SSE's", [f"{written}, {registers}"] if written or registers else [])
 
 
 def try_cpp(tried, more):
