@@ -219,7 +219,7 @@ uint8_t afdx_explain(const uint8_t *text, size_t length, uint8_t *buffer, size_t
    @param id the identifier of the port
    @param out the handle to fill
    @return AFDX_OK. Refused: AFDX_HELD (of `out`), AFDX_NOT_HELD, AFDX_WRONG_HANDLE, AFDX_GATHERED, AFDX_NO_PORT,
-   AFDX_MEMORY (never seen: afdx_open took what a port needs). */
+   AFDX_MEMORY (its contract allows it, but afdx_open took what a port needs, so it was never seen). */
 uint8_t afdx_port_of(afdx_end_system *it, uint16_t id, afdx_port *out);
 
 /** The identifiers of all ports, in the order of the plan, whether or not a port

@@ -13,6 +13,7 @@ import re
 import subprocess
 import sys
 import tempfile
+from glob import glob
 
 sys.dont_write_bytecode = True
 sys.path.append(os.path.dirname(os.path.dirname(os.path.abspath(__file__))))
@@ -91,6 +92,23 @@ def rule_faults():
             ("2.0.0", "ab", "2.1.0", "abc", True), ("2.1.0", "ab", "2.2.0", "ac", False), ("2.1.0", "ab", "3.0.0", "ac", True),
             ("2.1.0", "ab", "2.2.0", "a", False), ("2.1.0", "ab", "2.0.0", "ab", False), ("2.9.0", "ab", "2.10.0", "abc", True)]
     return [f"{row}" for row in rows if (refusal(*row[:4]) is None) != row[4]]
+
+
+def listed_answers():
+    """The answers that a contract lists whole, by the name of the call."""
+    texts = "".join(text_of(it) for it in sorted(glob("crates/afdx/src/*.rt", root_dir=ROOT)))
+    contracts = {name: contract for name, contract in re.findall(r'pub extern "C" fn (\w+)(.*?)\n\{\n', texts, re.DOTALL)}
+    found = {name: re.search(r"answers \{ IsOneOf result \((DONE [\w ∷]+)∷ \[\]\) \}", it) for name, it in contracts.items()}
+    return {name: ["AFDX_OK", *(f"AFDX_{it}" for it in re.findall(r"\w+", it[1])[1:])] for name, it in found.items() if it}
+
+
+def answer_faults():
+    """The calls whose comment in a header has other answers than the contract lists, or has them in another order."""
+    headers, listed = "".join(map(text_of, HEADERS)), listed_answers()
+    told = {name: re.findall(r"AFDX_\w+", text.rpartition("@return")[2])
+            for text, name in re.findall(r"/\*\*((?:(?!\*/).)*)\*/\nuint8_t (\w+)\(", headers, re.DOTALL)}
+    wrong = [f"{name}: {told.get(name)}, by its contract {wanted}" for name, wanted in listed.items() if told.get(name) != wanted]
+    return wrong if listed else ["no contract lists answers"]
 
 
 def main():

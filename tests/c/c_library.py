@@ -285,6 +285,7 @@ def main():
     with tempfile.TemporaryDirectory(prefix="c-library-") as room:
         try_header(tries, room)
         tries.attempt("the binary interface is the one of its version", lambda: (abi.faults(room) + abi.rule_faults(), ""))
+        tries.attempt("answers of calls in the headers and in contracts", lambda: (abi.answer_faults(), ""))
         if "--built" not in sys.argv and not is_built(tries):
             return tries.end()
         for name in ("c_calls", "owners", "memory", "threads", "lines", "judging"):
