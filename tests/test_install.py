@@ -226,6 +226,15 @@ def try_c(tried, more):
         try_program(tried, [tried.cc, "-std=gnu11", *flags], f"C, example.c{how}", f"{tried.examples}/c/example.c", more, says=example)
 
 
+def try_musl(tried):
+    """The example for C over the archive, linked statically with musl."""
+    if tried.lacks("musl-gcc", shutil.which("musl-gcc")):
+        return
+    words = ["-static", f"-I{tried.prefix}/include", f"{tried.examples}/cmake/main.c", f"{tried.prefix}/lib/libafdx.a", "-o", "musl"]
+    if tried.show("C, musl", tried.ran(["musl-gcc", *WARNINGS, *words]), ""):
+        tried.show("C, musl: it runs", tried.ran(["./musl", tried.config]), ONE_FRAME)
+
+
 def try_bare(tried):
     """The example without a C library prints one frame, out of a table. What it links has none of the calls that read texts."""
     made = tried.ran([f"{tried.prefix}/bin/afdx_bench", "compile", tried.config, "--c", "table.c"])
@@ -477,6 +486,7 @@ def main():
             try_names(tried)
             more = linked(tried)
             try_c(tried, more)
+            try_musl(tried)
             try_bare(tried)
             try_play(tried, more)
             try_cpp(tried, more)
