@@ -154,13 +154,19 @@ def report(seed):
     plan = plan_of(rng, rng.randint(1, 9), rng.randint(1, 20), rng.choice((None, 2)))
     name, words = save("plan.toml", text_of(plan, rng)), ["--lateness", str(rng.choice((0, 999)))]
     if rng.random() < 0.7:
-        rows = "".join(f"{port['id']},a name,{rng.choice((1000, 20_000, 10**6))},{rng.choice(('', 5000, 10**7))}\n" for port in plan["port"] if rng.random() < 0.9)
-        words += ["--traffic", save("traffic.csv", TRAFFIC + rows)]
+        some = [port["id"] for port in plan["port"] if rng.random() < 0.9]
+        periods = {port: rng.choice((1000, 20_000, 10**6, None)) for port in some}
+        jitters = {port: period and rng.choice((0, 1, period)) for port, period in periods.items()}
+        rows = "".join(f"{port},a name,{periods[port] or ''},{rng.choice(('', 5000, 10**7))},{jitters[port] or ''}\n" for port in some)
+        words += ["--traffic", save("traffic.csv", TRAFFIC.replace("\n", ",jitter_us\n") + rows)]
     if rng.random() < 0.5:
         words.append("--strict")
     lines, read = both("report", name, *words)
     (told,) = read["plans"]
     sums = [{key: row[key] for key in ("network", "load_kbit_s", "share_percent", "exceeded")} for row in told["networks"]]
+    late = [(row["port"], row["period_us"], row["jitter_us"]) for row in told["traffic"] or []]
+    if late != [(port, periods.get(port), jitters.get(port)) for port, _, _ in late]:
+        return [f"jitters: {late} for {jitters}"]
     faults = [] if sums == read["networks"] and told["file"] == name else [f"{read['networks']} for {sums}"]
     return faults + reported(told, lines)
 

@@ -13,11 +13,13 @@ import csv
 import os
 import random
 import re
+import statistics
 import subprocess
 import sys
 import tempfile
 import tomllib
 from collections.abc import Iterator
+from fractions import Fraction
 
 HERE = os.path.dirname(os.path.abspath(__file__))
 ROOT = os.path.dirname(os.path.dirname(HERE))
@@ -25,6 +27,7 @@ PROGRAM = f"{ROOT}/crates/afdx_bench/out/afdx_bench"
 sys.dont_write_bytecode = True
 sys.path[:0] = [f"{ROOT}/tests", HERE]
 import fixed  # noqa: E402
+import groups  # noqa: E402
 import picture  # noqa: E402
 import refusals  # noqa: E402
 import refusals_wanted  # noqa: E402
@@ -268,8 +271,20 @@ def wide_faults(seed: int) -> Iterator[str]:
     yield from (f"plan {seed}: {fault}" for fault in rows)
 
 
+def kept_plan(rng: random.Random, capacity: int) -> tuple[str, Plan, dict[int, tuple], Plan, groups.Flows, int]:
+    """A plan of one small link, all of whose ports have periods: its text and tables, the demands, a port, the flows of the
+    sub-VLs, and the lateness."""
+    text, _, port = random_plan(rng, capacity)
+    plan, lateness = tomllib.loads(text), rng.choice((0, 0, 1, 250, 999))
+    link = plan["vl"][0]
+    demands = traffic.random_demands(rng, plan, True)
+    flows = traffic.flows_of(plan, demands, {other["id"]: pieces(link, other["max"]) for other in plan["port"]}, link)
+    return text, plan, demands, port, flows, lateness
+
+
 def traffic_faults(seed: int) -> Iterator[str]:
-    """What is wrong with the waits by traffic of a random plan, and with a run that comes as near to them as may be."""
+    """What is wrong with the waits by traffic of a random plan, and with a run in which a port waits as long as it may beside
+    sub-VLs that are always full."""
     rng = random.Random(seed)
     text, ports, port = random_plan(rng, 256)
     lateness, plan = rng.choice((0, 0, 1, 250, 999)), tomllib.loads(text)
@@ -280,35 +295,61 @@ def traffic_faults(seed: int) -> Iterator[str]:
     if any(other["id"] not in demands for other in mates):
         return
     flows = [(pieces(plan["vl"][0], other["max"]), *demands[other["id"]][1::2]) for other in mates]
-    wait = traffic.by_traffic(flows, used * pause)
+    wait = groups.wait_in(flows, [], used * pause)
     if wait is None:
         return
-    busy = traffic.busy_rounds(flows, used * pause) * used * pause
+    busy = groups.busy_rounds(flows, used * pause) * used * pause
     if busy > 400 * pause:
         return
     for before in (0, pieces(plan["vl"][0], port["max"])):
         script, accepted = traffic.script_of(plan, port, demands, lateness, busy, before)
-        save("script.txt", "\n".join(script) + "\n")
-        ran = subprocess.run([PROGRAM, "run", "plan.toml", "script.txt"], capture_output=True, text=True, check=False, timeout=60)
-        longest = max(traffic.waits_of(ran.stdout, port["sub"], accepted))
+        longest = max(traffic.waits_of(run_of(text, script), port["sub"], accepted))
         if longest != wait - (0 if before or used == 1 else pause):
             yield f"plan {seed}: port {port['id']} waits {longest} after {before}, and its wait by traffic is {wait}, a turn {pause}\n{text}"
 
 
-def full_run(text: str, port: Plan, demands: dict[int, tuple], lateness: int) -> tuple[int | str, bool]:
-    """The places that a port's sub-VL needs, and whether one of its messages is refused as full in a run that brings the most."""
-    plan = tomllib.loads(text)
-    link, used = plan["vl"][0], len({other["sub"] for other in plan["port"]})
-    sizes = {other["id"]: pieces(link, other["max"]) for other in plan["port"]}
-    turn = used * (1000 * link["bag_ms"] + lateness)
-    flows = traffic.flows_of(plan, demands, sizes, link, port["sub"])
-    need, rounds = traffic.need_by_traffic(flows, turn), traffic.busy_rounds(flows, turn)
-    script = traffic.full_script(plan, port, demands, lateness, min(rounds or 400, 400) * turn, sizes[port["id"]])
+def run_of(text: str, script: list[str]) -> str:
+    """The transcript of a script."""
     save("script.txt", "\n".join(script) + "\n")
     save("plan.toml", text)
-    ran = subprocess.run([PROGRAM, "run", "plan.toml", "script.txt"], capture_output=True, text=True, check=False, timeout=60)
-    mates = [other["id"] for other in plan["port"] if other["sub"] == port["sub"]]
-    return need, any(number in mates for number in traffic.full_ports(ran.stdout, script))
+    done = subprocess.run([PROGRAM, "run", "plan.toml", "script.txt"], capture_output=True, text=True, check=False, timeout=60)
+    return done.stdout
+
+
+def kept_faults(ports: int) -> Iterator[str]:
+    """What is wrong with the waits by traffic of links on which all ports keep their periods, beside the longest that an adversary
+    finds: none is longer than its bound, and half of them are at least 95 % of it."""
+    seen, seed = [], 0
+    while len(seen) < ports:
+        seed += 1
+        rng = random.Random(seed)
+        text, plan, demands, port, flows, lateness = kept_plan(rng, 256)
+        sub, turn = port["sub"], 1000 * plan["vl"][0]["bag_ms"] + lateness
+        bound = groups.wait_of(flows, sub, turn) if len(flows) > 1 else None
+        if bound is None or bound > 400 * turn:
+            continue
+        longest, starts, last = groups.worst_start(rng, flows, sub, turn, bound)
+        script, accepted = traffic.kept_script(plan, flows, starts, last, turn, sub)
+        waits = max(traffic.waits_of(run_of(text, script), sub, accepted))
+        seen.append(Fraction(longest, bound))
+        if longest > bound or waits != longest:
+            yield f"plan {seed}: port {port['id']} waits {waits}, {longest} in the model, and its bound is {bound}\n{text}{demands}"
+    if statistics.median(seen) < Fraction(95, 100):
+        yield f"the median of the longest waits is {float(statistics.median(seen))} of their bounds"
+
+
+def full_run(text: str, plan: Plan, demands: dict[int, tuple], port: Plan, flows: groups.Flows, lateness: int) -> tuple[int | str, bool]:
+    """The places that a port's sub-VL needs, and whether one of its messages is refused as full in a run that brings the most.
+    The other sub-VLs are always full, or send as often as their flows may."""
+    link, sub, turn = plan["vl"][0], port["sub"], 1000 * plan["vl"][0]["bag_ms"] + lateness
+    need, alone = groups.need_of(flows, sub, turn), len(flows) * turn
+    if None in [flows[other] for other in flows if other != sub]:
+        rounds = groups.busy_rounds(flows[sub], alone)
+        script = traffic.full_script(plan, port, demands, lateness, min(rounds or 400, 400) * alone, pieces(link, port["max"]))
+    else:
+        script, _ = traffic.kept_script(plan, flows, dict.fromkeys(flows, 0), sub, turn, None)
+    mates = [other["id"] for other in plan["port"] if other["sub"] == sub]
+    return need, any(number in mates for number in traffic.full_ports(run_of(text, script), script))
 
 
 def full_faults(plans: int) -> Iterator[str]:
@@ -317,13 +358,15 @@ def full_faults(plans: int) -> Iterator[str]:
     fewer = met = 0
     for seed in range(plans):
         rng = random.Random(seed)
-        text, _, port = random_plan(rng, rng.choice((3, 3, 1, 2, 4, 5)))
-        lateness = rng.choice((0, 0, 1, 250, 999))
-        plan = tomllib.loads(text)
-        bag, capacity = 1000 * plan["vl"][0]["bag_ms"], plan["vl"][0]["capacity"]
+        text, plan, _, port, _, lateness = kept_plan(rng, rng.choice((3, 3, 1, 2, 4, 5)))
+        link = plan["vl"][0]
+        bag, capacity = 1000 * link["bag_ms"], link["capacity"]
         periods = {other["id"]: rng.choice((rng.randint(1, 400 * bag), bag * rng.randint(1, 64))) for other in plan["port"]}
-        demands = {port: ("", period, None, rng.choice((0, 0, period, rng.randint(0, period)))) for port, period in periods.items()}
-        need, is_full = full_run(text, port, demands, lateness)
+        demands = {other: ("", period, None, rng.choice((0, 0, period, rng.randint(0, period)))) for other, period in periods.items()}
+        flows = traffic.flows_of(plan, demands, {other["id"]: pieces(link, other["max"]) for other in plan["port"]}, link)
+        if seed % 2:
+            flows |= dict.fromkeys((other for other in flows if other != port["sub"]), None)
+        need, is_full = full_run(text, plan, demands, port, flows, lateness)
         if is_full and isinstance(need, int) and need <= capacity:
             yield f"plan {seed}: port {port['id']} finds a queue of {capacity} full, and {need} are needed\n{text}{demands}"
         fewer += isinstance(need, str) or need > capacity
@@ -461,6 +504,7 @@ def main() -> int:
         "files that can't be made, and one file named twice": file_faults,
         "refused memory and writes, with traffic": lambda: refusal_faults(DEMO, "--traffic", "demo.csv", "--csv", "rows.csv"),
         f"{plans // 5} plans of several links": lambda: (fault for seed in range(plans // 5) for fault in wide_faults(seed)),
+        f"{plans * 4 // 5} waits of ports beside others that keep their periods": lambda: kept_faults(plans * 4 // 5),
         f"{plans} waits by traffic": lambda: (fault for seed in range(plans) for fault in traffic_faults(seed)),
         f"{plans} queues of plans that bring the most": lambda: full_faults(plans),
         f"{plans} waits": lambda: (fault for seed in range(plans) for fault in wait_faults(seed)),

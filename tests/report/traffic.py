@@ -1,12 +1,13 @@
-"""The traffic of `afdx_bench report`: an independent model of the waits by traffic and of the places that queues need, texts
-with faults, and runs of the end system in which each port keeps its period with its jitter, the other sub-VLs of its link are
-always full, and polls come as late as they may.
+"""The traffic of `afdx_bench report`: its rows by the model of `groups.py`, texts with faults, and runs of the end system in
+which polls come as late as they may. Each port of a sub-VL keeps its period with its jitter, and the other sub-VLs of its link
+are always full, or keep theirs.
 """
 import csv
 import io
 import random
 from collections.abc import Iterator
-from fractions import Fraction
+
+from groups import Flows, arrivals, need_of, times_of, wait_of
 
 Plan = dict
 PORTS = "port,name,period_us,deadline_us\n"
@@ -16,7 +17,7 @@ LIMIT = 1_000_000_000_000
 NONE = ("", None, None, 0)
 # The columns of the CSV file: those of a port, and after them those of a sub-VL.
 HEAD = "port name link sub_vl fragments period_us deadline_us wait_queue_us wait_traffic_us holds slack_us".split()
-HEAD += ["missed", "capacity", "ports", "greatest", "bytes", "need", "suffices", "partitions"]
+HEAD += ["missed", "capacity", "ports", "greatest", "bytes", "need", "suffices", "partitions", "jitter_us"]
 
 # Traffic texts of the demonstration, whose one port is 10, and the faults that are printed of them.
 FAULTS = {
@@ -64,66 +65,27 @@ def crowds() -> Iterator[tuple[str, list[str]]]:
     yield PORTS + "9,,0,0\n" * 5000, [f"line {k + 2}, {kind}" for k in range(5000) for kind in kinds]
 
 
-def times_of(period: int, jitter: int, end: int) -> list[int]:
-    """When a port hands messages over from 0 to before an end, as often as it may: those that are planned before 0 come at 0,
-    as late as the jitter allows, and the others on time."""
-    return [max(planned, 0) for planned in range(-jitter, end, period)]
-
-
-def busy_rounds(flows: list[tuple[int, int, int]], turn: int) -> int | None:
-    """The first number of rounds in which as many fragments go out as come before their end, up to 65,536."""
-    rounds = 1
-    while rounds <= 65_536:
-        if sum(size * len(range(-jitter, rounds * turn, period)) for size, period, jitter in flows) == rounds:
-            return rounds
-        rounds += 1
-    return None
-
-
-def by_traffic(flows: list[tuple[int, int, int]], turn: int) -> int | None:
-    """The greatest wait in the longest busy time of a sub-VL that sends a fragment each `turn`."""
-    if sum(Fraction(size * turn, period) for size, period, _ in flows) > 1:
-        return None
-    rounds = busy_rounds(flows, turn)
-    if rounds is None:
-        return None
-    times = {t for _, period, jitter in flows for t in times_of(period, jitter, rounds * turn + 1)}
-    return max(turn * sum(size * len(range(-jitter, t + 1, period)) for size, period, jitter in flows) - t for t in times)
-
-
-def need_by_traffic(flows: list[tuple[int, int, int]], turn: int) -> int | str:
-    """The places that the queue of a sub-VL needs that sends a fragment each `turn`: the less of two bounds. A message that
-    comes at t finds those that have come and aren't begun, by fragments of the greatest size; and none is older than a wait."""
-    if sum(Fraction(size * turn, period) for size, period, _ in flows) > 1:
-        return "overloaded"
-    rounds, wait = busy_rounds(flows, turn), by_traffic(flows, turn)
-    if rounds is None:
-        return "unknown"
-    greatest = max(size for size, _, _ in flows)
-    times = {t for _, period, jitter in flows for t in times_of(period, jitter, rounds * turn + 1)}
-
-    def come(t: int) -> int:
-        return sum(len(range(-jitter, t + 1, period)) for _, period, jitter in flows)
-
-    return min(max(come(t) - -(-(max(t - 1, 0) // turn) // greatest) for t in times), come(wait))
-
-
-def flows_of(plan: Plan, demands: dict[int, tuple], sizes: dict[int, int], link: Plan, sub: int) -> list[tuple[int, int | None, int]]:
-    """The fragments of a message, the period and the jitter of each port of a sub-VL."""
-    mates = [port["id"] for port in plan["port"] if (port["vl"], port["sub"]) == (link["id"], sub)]
-    return [(sizes[mate], *demands.get(mate, NONE)[1::2]) for mate in mates]
+def flows_of(plan: Plan, demands: dict[int, tuple], sizes: dict[int, int], link: Plan) -> Flows:
+    """The flows of each sub-VL of a link with a port: the fragments of a message, the period and the jitter of each of its ports.
+    None for a sub-VL with a port without a period."""
+    flows: Flows = {}
+    for port in plan["port"]:
+        if port["vl"] == link["id"]:
+            _, period, _, jitter = demands.get(port["id"], NONE)
+            mates = flows.setdefault(port["sub"], [])
+            flows[port["sub"]] = None if None in (mates, period) else [*mates, (sizes[port["id"]], period, jitter)]
+    return flows
 
 
 def queues_of(plan: Plan, demands: dict[int, tuple], tables: dict, lateness: int) -> list[list[str]]:
     """A row for each sub-VL: link, sub-VL, capacity, the places that it needs, and whether it suffices."""
     sizes, rows = {int(row[0]): int(row[3]) for row in tables["ports"]}, []
     for link in plan["vl"]:
-        used = len({port["sub"] for port in plan["port"] if port["vl"] == link["id"]})
+        flows = flows_of(plan, demands, sizes, link)
         for sub in range(link["sub_vls"]):
-            flows = flows_of(plan, demands, sizes, link, sub)
             row = [str(link["id"]), str(sub), str(link["capacity"]), "", ""]
-            if flows and None not in [period for _, period, _ in flows]:
-                need = need_by_traffic(flows, used * (1000 * link["bag_ms"] + lateness))
+            if flows.get(sub):
+                need = need_of(flows, sub, 1000 * link["bag_ms"] + lateness)
                 row[3:] = [str(need), "yes" if isinstance(need, int) and need <= link["capacity"] else "no"]
             rows.append(row)
     return rows
@@ -144,31 +106,33 @@ def sentence_of(plan: Plan, queues: list[list[str]]) -> str:
 def rows_of(plan: Plan, demands: dict[int, tuple], tables: dict, lateness: int) -> list[list[str]]:
     """The rows of a CSV file: `demands` has name, period, deadline and jitter by port, `tables` the rows of the report."""
     links, rows = {link["id"]: link for link in plan["vl"]}, []
+    sizes = {int(row[0]): int(row[3]) for row in tables["ports"]}
+    flows = {number: flows_of(plan, demands, sizes, link) for number, link in links.items()}
+    waits: dict[tuple[int, int], int | None] = {}
     for port, row in zip(plan["port"], tables["ports"], strict=True):
-        link = links[port["vl"]]
-        used = len({other["sub"] for other in plan["port"] if other["vl"] == port["vl"]})
-        sizes = {int(row[0]): int(row[3]) for row in tables["ports"]}
-        flows = flows_of(plan, demands, sizes, link, port["sub"])
-        wait = None if None in [period for _, period, _ in flows] else by_traffic(flows, used * (1000 * link["bag_ms"] + lateness))
-        name, period, deadline, _ = demands.get(port["id"], NONE)
-        queue = int(row[4])
+        of, turn = flows[port["vl"]], 1000 * links[port["vl"]]["bag_ms"] + lateness
+        if (place := (port["vl"], port["sub"])) not in waits:
+            waits[place] = wait_of(of, port["sub"], turn) if of[port["sub"]] else None
+        wait, queue = waits[place], int(row[4])
+        name, period, deadline, jitter = demands.get(port["id"], NONE)
         least = queue if wait is None else min(wait, queue)
         end = ["", ""] if deadline is None else [str(deadline - least), "yes" if least > deadline else "no"]
         numbers = ["" if number is None else str(number) for number in (period, deadline, queue, wait)]
-        rows.append([row[0], name, row[1], row[2], row[3], *numbers, "queue" if least == queue else "traffic", *end])
+        late = "" if period is None else str(jitter)
+        rows.append([row[0], name, row[1], row[2], row[3], *numbers, "queue" if least == queue else "traffic", *end, late])
     return rows
 
 
 def sheet_of(rows: list[list[str]], subs: list[list[str]], queues: list[list[str]], total: int) -> list[list[str]]:
     """All rows of a CSV file: those of the ports, those of the sub-VLs, and the bytes of the end system."""
-    ports = [[*row, *[""] * 7] for row in rows]
-    sheet = [["", "", *sub[:2], *[""] * 8, *sub[2:4], *sub[5:], *queue[3:], sub[4]] for sub, queue in zip(subs, queues, strict=True)]
-    return [*ports, *sheet, [*[""] * 15, str(total), "", "", ""]]
+    ports = [[*row[:-1], *[""] * 7, row[-1]] for row in rows]
+    sheet = [["", "", *sub[:2], *[""] * 8, *sub[2:4], *sub[5:], *queue[3:], sub[4], ""] for sub, queue in zip(subs, queues, strict=True)]
+    return [*ports, *sheet, [*[""] * 15, str(total), *[""] * 4]]
 
 
 def text_row(row: list[str]) -> list[str]:
     """The words of a row of the text, by that of the CSV file."""
-    cells = [cell or "-" for cell in [row[0], *row[5:]]]
+    cells = [cell or "-" for cell in [row[0], *row[5:-1]]]
     return cells + row[1].split()
 
 
@@ -221,6 +185,22 @@ def script_of(
             lines.append(f"send {number} {'5a' * size}")
             accepted.append(moment)
         lines += [f"send {other['id']} {'5a' * other['max']}" for other in others] + [f"at {poll}"]
+    return lines, accepted
+
+
+def kept_script(plan: Plan, flows: Flows, starts: dict[int, int], last: int, turn: int, sub: int) -> tuple[list[str], list[int]]:
+    """A run in which each sub-VL begins at its start to send as often as its ports may. Before, `last` is served alone, so that
+    the sub-VLs after it are next. The second value has the times at which the port's sub-VL accepts its messages."""
+    ports = {other: [port for port in plan["port"] if port["sub"] == other] for other in flows}
+    first = ports[last][0]
+    lines, accepted, end = [f"send {first['id']} 5a", "at 0"], [0] * (last == sub), 600 * turn
+    due = sorted(arrivals(flows, starts, end), key=lambda it: it[0] + (it[1] == sub) / 2)
+    for now in range(turn, end, turn):
+        while due and (due[0][0] < now or due[0][0] == now and due[0][1] != sub):
+            time, other, place = due.pop(0)
+            lines.append(f"send {ports[other][place]['id']} {'5a' * ports[other][place]['max']}")
+            accepted += [time] * (other == sub)
+        lines.append(f"at {now}")
     return lines, accepted
 
 

@@ -1,5 +1,5 @@
 -- What ports with periods hand over, the longest busy time of their sub-VL, and the times at which waits are greatest.
-use Rattle.plan_analysis.proofs.Names.{ℕ, zero, suc, ◌≡◌, ◌+◌, ◌-◌, ◌*◌, ◌/◌, ◌<◌, ◌≤◌, List, [], ◌∷◌, length, get_or, arith, refl, ap, ◌∙◌, sym, inl, inr, ◌⊎◌, max, below_more, ◌++◌, map, subst, get_or_append_left, get_or_default, get_or_push, All, div_ceil, cases_eq, cases_lt, All-cons, All-head, All-nil, All-tail, sum_by-cons, sum_by-le-sum_by, le-div, mul-le, div-le_self, div-mul-le_self, div-zero, Flow, Plan, IsPlan, IsPort, IsBusyUntil, MeetsByTraffic, MeetsWithJitter, WaitsByTraffic, Sender, Bound, IsFlow, arrived, arrived_before, wait_at, IsWithin, IsBusyTime, busy_limit, HasGoodPeriod, AreSendersOf, IsBoundOf, IsSubBound, PortPlan, link_of, round_of, sender_at, messages, greatest_message, places_at, later_at, min, ◌^◌, add-mul}
+use Rattle.plan_analysis.proofs.Names.{ℕ, zero, suc, ◌≡◌, ◌+◌, ◌-◌, ◌*◌, ◌/◌, ◌<◌, ◌≤◌, List, [], ◌∷◌, length, get_or, arith, refl, ap, ◌∙◌, sym, inl, inr, ◌⊎◌, max, below_more, ◌++◌, map, subst, get_or_append_left, get_or_default, get_or_push, All, div_ceil, cases_eq, cases_lt, All-cons, All-head, All-nil, All-tail, sum_by-cons, sum_by-le-sum_by, le-div, mul-le, div-le_self, div-mul-le_self, div-zero, Flow, Plan, IsPlan, IsPort, Sender, Bound, IsFlow, arrived, arrived_before, IsSentIn, IsWithin, IsBusyTime, busy_limit, HasGoodPeriod, AreSendersOf, IsBoundOf, IsSubBound, PortPlan, link_of, sender_at, messages, greatest_message, places_at, later_at, min, ◌^◌, add-mul}
 use native.Mathlib.Nat.{mul-suc}
 
 -- the messages of one flow
@@ -20,11 +20,11 @@ arrived_mono flows s t le = sum_by-le-sum_by (term s) (term t) flows
     mul-le f.fragments (count s f) f.fragments (count t f) (omega arith) (omega arith))
 
 -- the most fragments of a flow in twice the longest busy time that is looked for
-pub term_most : (f : Flow) (own : ℕ) → IsFlow f → own ≤ 591396864002 → f.fragments * own ≤ 202257727488684
-term_most f own good le = mul-le f.fragments own 342 591396864002 good.most le
+pub term_most : (f : Flow) (own : ℕ) → IsFlow f → own ≤ 739246080002 → f.fragments * own ≤ 252822159360684
+term_most f own good le = mul-le f.fragments own 342 739246080002 good.most le
 
 -- A sum that is over the greatest number isn't twice the period, nor is that number.
-pub saturates : (t j p : ℕ) → t ≤ 591396864000 → j ≤ p → 1 ≤ p → p < 2 ^ 64 → min (t + j) (2 ^ 64 - 1) / p ≡ (t + j) / p
+pub saturates : (t j p : ℕ) → t ≤ 739246080000 → j ≤ p → 1 ≤ p → p < 2 ^ 64 → min (t + j) (2 ^ 64 - 1) / p ≡ (t + j) / p
 saturates t j p short within step small = elim (cases_lt (t + j) (2 ^ 64)) [
   | inl less ↦ ap (λ (n : ℕ). n / p) (omega arith)
   | inr more ↦ (
@@ -43,7 +43,7 @@ saturates t j p short within step small = elim (cases_lt (t + j) (2 ^ 64)) [
           | inr more ↦ (let twice = mul-le 2 p (n / p) p (omega arith) (omega arith) in absurd (omega arith))
         ]
 
-pub count_most : (t j p : ℕ) → t ≤ 591396864000 → j ≤ p → 1 ≤ p → (t + j) / p ≤ 591396864001
+pub count_most : (t j p : ℕ) → t ≤ 739246080000 → j ≤ p → 1 ≤ p → (t + j) / p ≤ 739246080001
 count_most t j p short within step =
     let one = one_more t j p step within in
     let part = div-le_self t p in
@@ -213,41 +213,26 @@ same_arrived (f ∷ flows) s t all =
     let rest = same_arrived flows s t (All-tail P f flows all) in
     omega arith
 
--- Values at the later messages of the first `many` flows, up to an end, are no greater.
-abbrev pub AreCovered : (value_at : ℕ → ℕ) → List Flow → (busy greatest many : ℕ) → Type 0
-AreCovered value_at flows busy greatest many = (i : ℕ) (d : Flow) → i < many → (turn : ℕ)
-    → later_at (get_or flows i d) turn ≤ busy → value_at (later_at (get_or flows i d) turn) ≤ greatest
+-- A fact of the later messages of the first `many` flows, up to an end.
+abbrev pub AreCovered : (At : ℕ → Type 0) → List Flow → (busy many : ℕ) → Type 0
+AreCovered At flows busy many = (i : ℕ) (d : Flow) → i < many → (turn : ℕ)
+    → later_at (get_or flows i d) turn ≤ busy → At (later_at (get_or flows i d) turn)
 
--- a value that only a message can make greater
-abbrev pub Falls : List Flow → (value_at : ℕ → ℕ) → Type 0
-Falls flows value_at = (t : ℕ) → All (λ (f : Flow). count (suc t) f ≤ count t f) flows → value_at (suc t) ≤ value_at t
+-- a fact that only a message can end
+abbrev pub Lasts : List Flow → (At : ℕ → Type 0) → Type 0
+Lasts flows At = (t : ℕ) → All (λ (f : Flow). count (suc t) f ≤ count t f) flows → At t → At (suc t)
 
--- So it is no greater than at the start or at some later message.
-by_messages : (flows : List Flow) (value_at : ℕ → ℕ) (busy greatest : ℕ) → All IsFlow flows → Falls flows value_at
-    → value_at 0 ≤ greatest → AreCovered value_at flows busy greatest (length flows) → (t : ℕ) → t ≤ busy → value_at t ≤ greatest
-by_messages flows value_at busy greatest good falls start covered zero le = start
-by_messages flows value_at busy greatest good falls start covered (suc t) le = elim (at_later t flows lone good) [
+-- So it is one of all times, if it is one of the start and of the later messages.
+pub by_messages : (flows : List Flow) (At : ℕ → Type 0) (busy : ℕ) → All IsFlow flows → Lasts flows At
+    → At 0 → AreCovered At flows busy (length flows) → (t : ℕ) → t ≤ busy → At t
+by_messages flows At busy good lasts start covered zero le = start
+by_messages flows At busy good lasts start covered (suc t) le = elim (at_later t flows lone good) [
   | inl here ↦ (
-      let P : ℕ → Type 0 = λ n. n ≤ busy → value_at n ≤ greatest in
+      let P : ℕ → Type 0 = λ n. n ≤ busy → At n in
       subst P here.3 (covered here.0 lone here.1 here.2) le
       )
-  | inr none ↦
-      let before = by_messages flows value_at busy greatest good falls start covered t (omega arith) in
-      let less = falls t none in
-      omega arith
+  | inr none ↦ lasts t none (by_messages flows At busy good lasts start covered t (omega arith))
 ]
-
-wait_falls : (round : ℕ) (flows : List Flow) → Falls flows (wait_at round flows)
-wait_falls round flows t none =
-    let same = same_arrived flows t (suc t) none in
-    let whole = mul-le round (arrived flows (suc t)) round (arrived flows t) (omega arith) same in
-    omega arith
-
--- a wait is no longer than that at the start or at some later message
-pub wait_by_messages : (round : ℕ) (flows : List Flow) (busy longest : ℕ) → All IsFlow flows → wait_at round flows 0 ≤ longest
-    → AreCovered (wait_at round flows) flows busy longest (length flows) → (t : ℕ) → t ≤ busy → wait_at round flows t ≤ longest
-wait_by_messages round flows busy longest good start covered =
-    by_messages flows (wait_at round flows) busy longest good (wait_falls round flows) start covered
 
 same_messages : (flows : List Flow) (s t : ℕ) → All (λ (f : Flow). count t f ≤ count s f) flows → messages flows t ≤ messages flows s
 same_messages [] s t all = omega arith
@@ -271,17 +256,32 @@ some_greatest : (flows : List Flow) → All IsFlow flows → 1 ≤ length flows 
 some_greatest [] good some = absurd (omega arith)
 some_greatest (f ∷ flows) good some = let own = All-head IsFlow f flows good in omega arith
 
-places_fall : (round : ℕ) (flows : List Flow) → All IsFlow flows → 1 ≤ length flows → Falls flows (places_at round flows)
-places_fall round flows good some t none =
+places_fall : (round : ℕ) (flows : List Flow) (t : ℕ) → All IsFlow flows → 1 ≤ length flows
+    → All (λ (f : Flow). count (suc t) f ≤ count t f) flows → places_at round flows (suc t) ≤ places_at round flows t
+places_fall round flows t good some none =
     let same = same_messages flows t (suc t) none in
     let more = ceil_mono ((t - 1) / round) ((suc t - 1) / round) (greatest_message flows) (some_greatest flows good some) (div_mono (t - 1) (suc t - 1) round (omega arith)) in
     omega arith
 
--- and so are the places that are taken
+-- the places that are taken are no more than at the start or at some later message
 pub places_by_messages : (round : ℕ) (flows : List Flow) (busy most : ℕ) → All IsFlow flows → 1 ≤ length flows → places_at round flows 0 ≤ most
-    → AreCovered (places_at round flows) flows busy most (length flows) → (t : ℕ) → t ≤ busy → places_at round flows t ≤ most
+    → AreCovered (λ t. places_at round flows t ≤ most) flows busy (length flows) → (t : ℕ) → t ≤ busy → places_at round flows t ≤ most
 places_by_messages round flows busy most good some start covered =
-    by_messages flows (places_at round flows) busy most good (places_fall round flows good some) start covered
+    by_messages flows (λ t. places_at round flows t ≤ most) busy good
+    (λ t none le. let less = places_fall round flows t good some none in omega arith) start covered
+
+-- a message is sent in a wait if each one at the start and each later one is
+pub sent_by_messages : (round : ℕ) (own rest : List Flow) (busy wait : ℕ) → All IsFlow own
+    → IsSentIn round (arrived own 0) rest 0 wait
+    → AreCovered (λ t. IsSentIn round (arrived own t) rest t wait) own busy (length own)
+    → (t : ℕ) → t ≤ busy → IsSentIn round (arrived own t) rest t wait
+sent_by_messages round own rest busy wait good start covered =
+    by_messages own (λ t. IsSentIn round (arrived own t) rest t wait) busy good
+    (λ t none sent.
+    let less = same_arrived own t (suc t) none in
+    let whole = mul-le round (arrived own (suc t) + arrived rest sent.0) round (arrived own t + arrived rest sent.0) (omega arith) (omega arith) in
+    (sent.0, omega (arith, sent.1), omega (arith, sent.2)))
+    start covered
 
 -- the greater of two values at times
 pub max_within : (value_at : ℕ → ℕ) (end a b c : ℕ) → c ≡ max a b → IsWithin value_at end a → IsWithin value_at end b
@@ -319,17 +319,17 @@ good_senders plan senders valid of k d lt =
     }
 
 -- one flow more is covered
-pub cover_more : (value_at : ℕ → ℕ) (flows : List Flow) (busy old own new many : ℕ) (e : Flow) → many < length flows
-    → AreCovered value_at flows busy old many
-    → ((turn : ℕ) → later_at (get_or flows many e) turn ≤ busy → value_at (later_at (get_or flows many e) turn) ≤ own)
-    → new ≡ max old own → AreCovered value_at flows busy new (many + 1)
-cover_more value_at flows busy old own new many e within covered each is = λ i d lt turn le. elim (cases_eq i many) [
+pub cover_more : (Old At : ℕ → Type 0) (flows : List Flow) (busy many : ℕ) (e : Flow) → many < length flows
+    → ((t : ℕ) → Old t → At t) → AreCovered Old flows busy many
+    → ((turn : ℕ) → later_at (get_or flows many e) turn ≤ busy → At (later_at (get_or flows many e) turn))
+    → AreCovered At flows busy (many + 1)
+cover_more Old At flows busy many e within more covered each = λ i d lt turn le. elim (cases_eq i many) [
   | inl last ↦
-      let P : Flow → Type 0 = λ f. later_at f turn ≤ busy → value_at (later_at f turn) ≤ new in
+      let P : Flow → Type 0 = λ f. later_at f turn ≤ busy → At (later_at f turn) in
       let at : get_or flows many e ≡ get_or flows i d =
       get_or_default flows many e d within ∙ ap (λ (k : ℕ). get_or flows k d) (sym last) in
-      subst P at (λ h. let here = each turn h in omega arith) le
-  | inr before ↦ (let here = covered i d (omega arith) turn le in omega arith)
+      subst P at (each turn) le
+  | inr before ↦ more _ (covered i d (omega arith) turn le)
 ]
 
 -- what is known of a sender, at any default of its place
@@ -337,87 +337,15 @@ pub bound_here : (late : ℕ) (plan : Plan) (senders : List Sender) (i : ℕ) (d
     → IsBoundOf late plan senders (get_or senders i d) bound → IsBoundOf late plan senders (sender_at senders i) bound
 bound_here late plan senders i d bound lt own = subst (λ (s : Sender). IsBoundOf late plan senders s bound) (get_or_default senders i d _ lt) own
 
--- a wait is at most twice the longest busy time that is looked for
-pub wait_most : (round : ℕ) (flows : List Flow) (busy wait : ℕ) → round ≤ 4512000 → arrived flows busy ≤ 2 * busy_limit
-    → IsWithin (wait_at round flows) busy wait → wait ≤ 591396864000
-wait_most round flows busy wait short few met =
-    let mono = arrived_mono flows met.0 busy met.1 in
-    let most = mul-le round (arrived flows met.0) 4512000 (2 * busy_limit) short (omega arith) in
-    omega (arith, met.2)
-
 -- what is known of a sender is known of each other one on its sub-VL
 pub same_sub : (late : ℕ) (plan : Plan) (senders : List Sender) (s r : Sender) (bound known : Bound) → s.port.vl.0 ≡ r.port.vl.0
     → s.port.sub ≡ r.port.sub → bound ≡ known → IsBoundOf late plan senders s known → IsBoundOf late plan senders r bound
 same_sub late plan senders s r bound known vl sub is own =
     let port : ℕ → PortPlan = λ v. record s.port { vl = record { 0 = v } } in
-    let By : ℕ → ℕ → Bound → Type 0 = λ v n b. IsSubBound (round_of late plan (link_of plan (port v))) (link_of plan (port v)) n senders b in
+    let By : ℕ → ℕ → Bound → Type 0 = λ v n b. IsSubBound late plan (link_of plan (port v)) n senders b in
     subst (λ (v : ℕ). By v r.port.sub bound) vl (subst (λ (n : ℕ). By s.port.vl.0 n bound) sub
     (subst (λ (b : Bound). By s.port.vl.0 s.port.sub b) (sym is) own))
 
 -- nothing more is handed over by an earlier time of a busy time
 pub arrived_within : (flows : List Flow) (s t most : ℕ) → s ≤ t → arrived flows t ≤ most → arrived flows s ≤ most
 arrived_within flows s t most le few = let mono = arrived_mono flows s t le in omega arith
-
--- the message is accepted within the longest busy time
-in_busy : (round : ℕ) (flows : List Flow) (busy at : ℕ) (before by gone : ℕ → ℕ) → IsBusyTime round flows busy
-    → IsBusyUntil round flows at before by gone → at ≤ busy
-in_busy round flows busy at before by gone is b = elim (cases_lt busy at) [
-  | inl late ↦
-      let had = b.has busy is.some (omega arith) in
-      let kept = b.kept_before busy is.some (omega arith) in
-      let more = b.sends busy (omega arith) in
-      let le = mul-le round (gone busy + 1) round (arrived_before flows busy) (omega arith) (omega arith) in
-      absurd (omega (arith, is.is))
-  | inr soon ↦ soon
-]
-
-pub waits_by_traffic : WaitsByTraffic
-waits_by_traffic round flows wait at before by gone some of b =
-    let inside = in_busy round flows of.busy at before by gone of.is_busy b in
-    let most = of.most at inside in
-    let whole = mul-le round (by at) round (arrived flows at) (omega arith) b.kept in (
-      elim (cases_lt (gone (round * by at)) (by at)) [
-        | inl few ↦
-            let more = b.sends (round * by at) few in
-            let le = mul-le round (gone (round * by at) + 1) round (by at) (omega arith) (omega arith) in
-            absurd (omega arith)
-        | inr all ↦ all
-      ],
-      omega arith,
-    )
-
-pub meets_by_traffic : MeetsByTraffic
-meets_by_traffic = record {
-  wait = record {
-    busy = 1000;
-    is_busy = record { some = omega arith; is = refl; least = λ t some is. grind arith };
-    met = (0, omega arith, refl);
-    most = λ t le. grind arith;
-  };
-  busy = record {
-    kept_before = λ t some le. absurd (omega arith);
-    kept = omega arith;
-    has = λ t some le. absurd (omega arith);
-    sends = λ t few. omega arith;
-  };
-  released = omega arith;
-  sooner = λ one. absurd (omega arith);
-}
-
-pub meets_with_jitter : MeetsWithJitter
-meets_with_jitter = record {
-  wait = record {
-    busy = 2000;
-    is_busy = record { some = omega arith; is = refl; least = λ t some is. grind arith };
-    met = (1, omega arith, refl);
-    most = λ t le. grind arith;
-  };
-  busy = record {
-    kept_before = λ t some le. grind arith;
-    kept = omega arith;
-    has = λ t some le. grind arith;
-    sends = λ t few. grind arith;
-  };
-  released = omega arith;
-  sooner = λ two. absurd (omega arith);
-}

@@ -49,8 +49,8 @@ never_catches_up round flows good more t some =
     (all_shares round whole_share t flows good)
 
 -- the share of a port in the code is within 128 bits
-pub share_most : (c round p : ℕ) → c ≤ 342 → round ≤ 4512000 → c * round * 18446744073709551616 / p ≤ 28465244567117503936856064000
+pub share_most : (c round p : ℕ) → c ≤ 342 → round ≤ 5640000 → c * round * 18446744073709551616 / p ≤ 35581555708896879921070080000
 share_most c round p few short =
-    let one = mul-le c round 342 4512000 few short in
+    let one = mul-le c round 342 5640000 few short in
     let part = div-le_self (c * round * 18446744073709551616) p in
     omega arith

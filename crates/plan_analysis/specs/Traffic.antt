@@ -1,6 +1,6 @@
 -- The longest wait of a message, and the places that its queue needs, if each port of its sub-VL keeps a period with
 -- its jitter.
-use Rattle.std.specs.Prelude.{ℕ, Bool, true, false, ◌≡◌, ◌+◌, ◌-◌, ◌*◌, ◌/◌, ◌^◌, ◌≤◌, ◌<◌, List, [], ◌∷◌, length, map, filter, sum_by, max, min, not, ◌||◌, All, Option, Some, None, IfSome, is_some, unwrap_or, get_or}
+use Rattle.std.specs.Prelude.{ℕ, Bool, true, false, ◌≡◌, ◌+◌, ◌-◌, ◌*◌, ◌/◌, ◌%◌, ◌^◌, ◌≤◌, ◌<◌, List, [], ◌∷◌, ◌++◌, length, map, filter, sum_by, max, min, not, nat_eq, ◌&&◌, ◌||◌, All, Option, Some, None, IfSome, is_some, unwrap_or, get_or}
 use Rattle.std.specs.Int.{div_ceil}
 use Rattle.std.specs.List.{list_all}
 use Rattle.afdx_plan.specs.Config.{Plan, port_plan_at}
@@ -10,7 +10,9 @@ use Rattle.plan_analysis.specs.declared.traffic.Bound.{Bound}
 use Rattle.plan_analysis.specs.declared.traffic.Bound.TheVariants.{NoPeriod, Found, Overloaded, TooLong}
 use Rattle.plan_analysis.specs.declared.busy_time.Flow.{Flow}
 use Rattle.plan_analysis.specs.declared.traffic.Sender.{Sender}
-use Rattle.plan_analysis.specs.Wait.{is_on, link_of, port_pieces, used_sub_vls}
+use Rattle.afdx_plan.specs.declared.port_plan.PortPlan.{PortPlan}
+use Rattle.vl_shaper.specs.Pace.{users_among}
+use Rattle.plan_analysis.specs.Wait.{is_on, has_port, link_of, port_pieces}
 
 -- The most fragments that ports hand over in the first `t` microseconds, both ends included. Each port hands over a
 -- greatest message at the start, late by the jitter. The others are planned a period apart after it, and come on time.
@@ -28,21 +30,48 @@ pub record IsBusyTime (round : ℕ) (flows : List Flow) (busy : ℕ) : Type 0 wh
   pub is : busy ≡ round * arrived_before flows busy
   pub least : (t : ℕ) → 1 ≤ t → t ≡ round * arrived_before flows t → busy ≤ t
 
--- The wait of a message that is accepted `t` after the start of a busy time: its own fragments and the earlier ones
--- take a round each, from the start on.
-abbrev pub wait_at : ℕ → List Flow → ℕ → ℕ
-wait_at round flows t = round * arrived flows t - t
+-- A group of sub-VLs sends a fragment each `round`. A message of one of them is accepted during a busy time of the
+-- group: its sub-VL had `own` fragments up to it. By this end all is sent that could go before it: these, and what the
+-- other sub-VLs of the group hand over by then, the end included.
+abbrev pub IsEnough : (round own : ℕ) → (rest : List Flow) → (end : ℕ) → Type 0
+IsEnough round own rest end = round * (own + arrived rest end) ≤ end
 
--- a value at some time up to an end
-abbrev pub IsWithin : (value_at : ℕ → ℕ) → (end value : ℕ) → Type 0
-IsWithin value_at end value = (t : ℕ) × (t ≤ end) × (value ≡ value_at t)
+-- the wait of the message, accepted `at` after the start: up to the least end that is enough
+pub record IsWaitAt (round own : ℕ) (rest : List Flow) (at wait : ℕ) : Type 0 where
+  pub some : 1 ≤ own
+  pub end : ℕ
+  pub enough : IsEnough round own rest end
+  pub least : (t : ℕ) → IsEnough round own rest t → end ≤ t
+  pub is : wait ≡ end - at
 
--- the greatest wait (`wait_at`), over all times up to the longest busy time
-pub record IsWaitByTraffic (round : ℕ) (flows : List Flow) (wait : ℕ) : Type 0 where
+-- an end that is enough, within a wait
+abbrev pub IsSentIn : (round own : ℕ) → (rest : List Flow) → (at wait : ℕ) → Type 0
+IsSentIn round own rest at wait = (end : ℕ) × IsEnough round own rest end × (end ≤ at + wait)
+
+-- No busy time and no wait of more than this many rounds is looked for.
+abbrev pub busy_limit : ℕ
+busy_limit = 65536
+
+-- no end within this wait is enough
+abbrev pub IsLate : (round own : ℕ) → (rest : List Flow) → (at : ℕ) → Type 0
+IsLate round own rest at = (end : ℕ) → IsEnough round own rest end → at + round * busy_limit < end
+
+-- the message of some time up to the end of a busy time is late
+abbrev pub IsTooLong : (round : ℕ) → (own rest : List Flow) → (busy : ℕ) → Type 0
+IsTooLong round own rest busy = (t : ℕ) × (t ≤ busy) × IsLate round (arrived own t) rest t
+
+-- some message up to the end of a busy time has this wait
+abbrev pub IsMetBy : (round : ℕ) → (own rest : List Flow) → (busy wait : ℕ) → Type 0
+IsMetBy round own rest busy wait = (t : ℕ) × (t ≤ busy) × IsWaitAt round (arrived own t) rest t wait
+
+-- The wait by traffic in a group: the greatest wait, over all times up to the longest busy time of the group.
+pub record IsWaitInGroup (round : ℕ) (own rest : List Flow) (wait : ℕ) : Type 0 where
   pub busy : ℕ
-  pub is_busy : IsBusyTime round flows busy
-  pub met : IsWithin (wait_at round flows) busy wait
-  pub most : (t : ℕ) → t ≤ busy → wait_at round flows t ≤ wait
+  pub is_busy : IsBusyTime round (own ++ rest) busy
+  pub soon : busy ≤ round * busy_limit
+  pub met : IsMetBy round own rest busy wait
+  pub most : (t : ℕ) → t ≤ busy → IsSentIn round (arrived own t) rest t wait
+  pub short : wait ≤ round * busy_limit
 
 -- the most messages that ports hand over in the first `t` microseconds, both ends included
 abbrev pub messages : List Flow → ℕ → ℕ
@@ -62,21 +91,32 @@ later_at flow turn = flow.period - flow.jitter + turn * flow.period
 abbrev pub places_at : ℕ → List Flow → ℕ → ℕ
 places_at round flows t = messages flows t - div_ceil ((t - 1) / round) (greatest_message flows)
 
--- the greatest number of messages not begun (`places_at`), over all times up to the longest busy time
+-- a value at some time up to an end
+abbrev pub IsWithin : (value_at : ℕ → ℕ) → (end value : ℕ) → Type 0
+IsWithin value_at end value = (t : ℕ) × (t ≤ end) × (value ≡ value_at t)
+
+-- the greatest number of messages not begun (`places_at`), over all times up to an end
+pub record IsMostPlaces (round : ℕ) (flows : List Flow) (end places : ℕ) : Type 0 where
+  pub met : IsWithin (places_at round flows) end places
+  pub most : (t : ℕ) → t ≤ end → places_at round flows t ≤ places
+
+-- the greatest number over all times up to the longest busy time
 pub record IsBacklog (round : ℕ) (flows : List Flow) (backlog : ℕ) : Type 0 where
   pub busy : ℕ
   pub is_busy : IsBusyTime round flows busy
-  pub met : IsWithin (places_at round flows) busy backlog
-  pub most : (t : ℕ) → t ≤ busy → places_at round flows t ≤ backlog
+  pub is_most : IsMostPlaces round flows busy backlog
 
--- The places that a queue needs for its traffic. Its messages are no more than the backlog; and all of them were handed
--- over within the wait of the oldest, as each is begun before its wait is over.
-pub record IsNeed (round : ℕ) (flows : List Flow) (need : ℕ) : Type 0 where
-  pub backlog : ℕ
-  pub is_backlog : IsBacklog round flows backlog
-  pub wait : ℕ
-  pub is_wait : IsWaitByTraffic round flows wait
-  pub less : need ≡ min backlog (messages flows wait)
+-- the backlog, if the sub-VL alone has a wait within the limit
+abbrev pub IsKnownBacklog : (round : ℕ) → List Flow → Option ℕ → Type 0
+IsKnownBacklog round flows None = (wait : ℕ) → IsWaitInGroup round flows [] wait → ⊥
+IsKnownBacklog round flows (Some backlog) = IsBacklog round flows backlog
+
+-- The places that a queue needs for its traffic. Its messages are no more than the backlog, if that is known; and all of
+-- them were handed over within the wait of the oldest, as each is begun before its wait is over.
+pub record IsNeed (round : ℕ) (flows : List Flow) (wait need : ℕ) : Type 0 where
+  pub backlog : Option ℕ
+  pub is_backlog : IsKnownBacklog round flows backlog
+  pub less : need ≡ min (unwrap_or backlog (messages flows wait)) (messages flows wait)
 
 -- At no time is all that was handed over before it sent.
 abbrev pub IsOverloaded : (round : ℕ) → List Flow → Type 0
@@ -90,9 +130,27 @@ link_share round flows = sum_by (λ (f : Flow). f.fragments * round * 2 ^ 64 / f
 abbrev pub whole_share : ℕ
 whole_share = 2 ^ 64
 
--- a round of a link: a BAG and the lateness of a poll for each sub-VL that has a port
-abbrev pub round_of : ℕ → Plan → LinkPlan → ℕ
-round_of late plan link = used_sub_vls link plan.ports * (bag_micros link.bag + late)
+-- true if bit `sub` of the number is set
+abbrev pub has_sub : (mates sub : ℕ) → Bool
+has_sub mates sub = nat_eq (mates / 2 ^ sub % 2) 1
+
+-- A group of sub-VLs of a link: sub-VL `sub`, and its mates, the sub-VLs whose bits are set in a number. Each mate is
+-- another sub-VL that has a port.
+abbrev pub is_mate : LinkPlan → List PortPlan → (sub mates k : ℕ) → Bool
+is_mate link ports sub mates k = not (has_sub mates k) || (not (nat_eq k sub) && has_port link ports k)
+
+abbrev pub are_mates : LinkPlan → List PortPlan → (sub mates : ℕ) → Bool
+are_mates link ports sub mates = is_mate link ports sub mates 0 && is_mate link ports sub mates 1
+    && is_mate link ports sub mates 2 && is_mate link ports sub mates 3
+
+-- a sub-VL with a port outside the group
+abbrev pub is_outside : LinkPlan → List PortPlan → (sub mates k : ℕ) → Bool
+is_outside link ports sub mates k = has_port link ports k && not (nat_eq k sub) && not (has_sub mates k)
+
+-- A round of a group: a BAG and the lateness of a poll for the group, and for each sub-VL with a port outside it.
+abbrev pub round_of : ℕ → Plan → LinkPlan → (sub mates : ℕ) → ℕ
+round_of late plan link sub mates = (1 + users_among link.sub_vls (is_outside link plan.ports sub mates))
+    * (bag_micros link.bag + late)
 
 -- the senders on a sub-VL of a link
 abbrev pub senders_on : LinkPlan → ℕ → List Sender → List Sender
@@ -117,11 +175,31 @@ have_periods link sub senders = list_all (λ (s : Sender). not (is_on link sub s
 abbrev pub flows_of : LinkPlan → ℕ → List Sender → List Flow
 flows_of link sub senders = map (flow_of link) (senders_on link sub senders)
 
+-- the port sends on a mate
+unfoldable pub is_with : LinkPlan → (mates : ℕ) → PortPlan → Bool
+is_with link mates port = nat_eq port.vl.0 link.id.0 && has_sub mates port.sub
+
+-- each sender on a mate has a period
+abbrev pub mates_have_periods : LinkPlan → ℕ → List Sender → Bool
+mates_have_periods link mates senders =
+    list_all (λ (s : Sender). not (is_with link mates s.port) || has_period s) senders
+
+-- the flows of the senders on the mates
+abbrev pub flows_with : LinkPlan → ℕ → List Sender → List Flow
+flows_with link mates senders =
+    map (flow_of link) (filter (λ (s : Sender). is_with link mates s.port) senders)
+
 -- the flows of a sub-VL, if each of its senders has a period
 abbrev pub AreFlowsOf : LinkPlan → ℕ → List Sender → Option (List Flow) → Type 0
 AreFlowsOf link sub senders None = have_periods link sub senders ≡ false
 AreFlowsOf link sub senders (Some flows) = (have_periods link sub senders ≡ true)
     × (flows ≡ flows_of link sub senders)
+
+-- the flows of the mates, if each of their senders has a period
+abbrev pub AreFlowsWith : LinkPlan → ℕ → List Sender → Option (List Flow) → Type 0
+AreFlowsWith link mates senders None = mates_have_periods link mates senders ≡ false
+AreFlowsWith link mates senders (Some flows) = (mates_have_periods link mates senders ≡ true)
+    × (flows ≡ flows_with link mates senders)
 
 -- a flow with the fragments of a message, a period and a jitter within it
 pub record IsFlow (flow : Flow) : Type 0 where
@@ -130,39 +208,79 @@ pub record IsFlow (flow : Flow) : Type 0 where
   pub period : 1 ≤ flow.period
   pub jitter : flow.jitter ≤ flow.period
 
--- no busy time of more than this many fragments is looked for
-abbrev pub busy_limit : ℕ
-busy_limit = 65536
+-- Mates of a sub-VL whose ports all have periods. A number below 16 has the bits of four sub-VLs.
+pub record AreMates (plan : Plan) (link : LinkPlan) (sub : ℕ) (senders : List Sender) (mates : ℕ) : Type 0 where
+  pub few : mates < 16
+  pub are : are_mates link plan.ports sub mates ≡ true
+  pub periods : mates_have_periods link mates senders ≡ true
 
--- The wait by traffic of a message on a sub-VL of a link, if each of its senders has a period.
-abbrev pub IsSubWait : (round : ℕ) → LinkPlan → ℕ → List Sender → ℕ → Type 0
-IsSubWait round link sub senders wait = (have_periods link sub senders ≡ true)
-    × IsWaitByTraffic round (flows_of link sub senders) wait
+-- the wait by traffic of a message on a sub-VL in a group
+abbrev pub IsGroupWait : ℕ → Plan → LinkPlan → ℕ → List Sender → (mates wait : ℕ) → Type 0
+IsGroupWait late plan link sub senders mates wait = AreMates plan link sub senders mates
+    × IsWaitInGroup (round_of late plan link sub mates) (flows_of link sub senders) (flows_with link mates senders) wait
+
+-- The wait by traffic of a message on a sub-VL of a link, if each of its senders has a period: the least in its groups.
+pub record IsSubWait (late : ℕ) (plan : Plan) (link : LinkPlan) (sub : ℕ) (senders : List Sender)
+    (wait : ℕ) : Type 0 where
+  pub periods : have_periods link sub senders ≡ true
+  pub mates : ℕ
+  pub met : IsGroupWait late plan link sub senders mates wait
+  pub least : (group other : ℕ) → IsGroupWait late plan link sub senders group other → wait ≤ other
+
+-- the lesser of two numbers, or the one that is known
+abbrev pub least_of : Option ℕ → Option ℕ → Option ℕ
+least_of (Some one) (Some other) = Some (min one other)
+least_of (Some one) None = Some one
+least_of None other = other
 
 -- the wait by traffic of a message of a sender
 abbrev pub IsWaitOf : ℕ → Plan → List Sender → Sender → ℕ → Type 0
-IsWaitOf late plan senders sender wait = IsSubWait (round_of late plan (link_of plan sender.port))
-    (link_of plan sender.port) sender.port.sub senders wait
+IsWaitOf late plan senders sender wait =
+    IsSubWait late plan (link_of plan sender.port) sender.port.sub senders wait
 
--- The places that the queue of a sub-VL of a link needs, if each of its senders has a period.
-abbrev pub IsSubNeed : (round : ℕ) → LinkPlan → ℕ → List Sender → ℕ → Type 0
-IsSubNeed round link sub senders need = (have_periods link sub senders ≡ true)
-    × IsNeed round (flows_of link sub senders) need
+-- The places that the queue of a sub-VL of a link needs, if each of its senders has a period. The backlog is that of the
+-- sub-VL without mates.
+pub record IsSubNeed (late : ℕ) (plan : Plan) (link : LinkPlan) (sub : ℕ) (senders : List Sender)
+    (need : ℕ) : Type 0 where
+  pub wait : ℕ
+  pub is_wait : IsSubWait late plan link sub senders wait
+  pub is_need : IsNeed (round_of late plan link sub 0) (flows_of link sub senders) wait need
 
--- The bound of a sub-VL by its senders' flows. It is overloaded exactly if its share of the link is more than the
--- whole. The bound has no number if the longest busy time takes more than `busy_limit` rounds.
-abbrev pub IsBoundBy : (round : ℕ) → List Flow → Bound → Type 0
-IsBoundBy round flows NoPeriod = ⊥
-IsBoundBy round flows (Found worst) = IsWaitByTraffic round flows worst.wait × IsNeed round flows worst.need
-IsBoundBy round flows Overloaded = (whole_share < link_share round flows) × IsOverloaded round flows
-IsBoundBy round flows TooLong = (link_share round flows ≤ whole_share)
-    × ((busy : ℕ) → IsBusyTime round flows busy → round * busy_limit < busy)
+-- The flows take more than the whole of their turns, and never catch up.
+abbrev pub IsOver : ℕ → List Flow → Type 0
+IsOver round flows = (whole_share < link_share round flows) × IsOverloaded round flows
 
--- The bound of a sub-VL of a link: none if one of its senders has no period.
-abbrev pub IsSubBound : (round : ℕ) → LinkPlan → ℕ → List Sender → Bound → Type 0
-IsSubBound round link sub senders NoPeriod = have_periods link sub senders ≡ false
-IsSubBound round link sub senders bound = (have_periods link sub senders ≡ true)
-    × IsBoundBy round (flows_of link sub senders) bound
+-- the flows of a sub-VL and its mates
+abbrev pub flows_in : LinkPlan → ℕ → List Sender → (mates : ℕ) → List Flow
+flows_in link sub senders mates = flows_of link sub senders ++ flows_with link mates senders
+
+-- the flows `own` of a sub-VL, and then those of its mates, if these make a group
+abbrev pub AreFlowsIn : Plan → LinkPlan → ℕ → List Sender → (mates : ℕ) → List Flow → Option (List Flow) → Type 0
+AreFlowsIn plan link sub senders mates own None = AreMates plan link sub senders mates → ⊥
+AreFlowsIn plan link sub senders mates own (Some flows) = AreMates plan link sub senders mates
+    × (flows ≡ own ++ flows_with link mates senders)
+
+-- a group that never catches up
+abbrev pub IsGroupOver : ℕ → Plan → LinkPlan → ℕ → List Sender → (mates : ℕ) → Type 0
+IsGroupOver late plan link sub senders mates =
+    IsOver (round_of late plan link sub mates) (flows_in link sub senders mates)
+
+-- a group that is within its turns
+abbrev pub IsGroupWithin : ℕ → Plan → LinkPlan → ℕ → List Sender → (mates : ℕ) → Type 0
+IsGroupWithin late plan link sub senders mates = AreMates plan link sub senders mates
+    × (link_share (round_of late plan link sub mates) (flows_in link sub senders mates) ≤ whole_share)
+
+-- The bound of a sub-VL of a link: none if one of its senders has no period. It is overloaded exactly if each of its
+-- groups is. The bound has no number if no group has a wait within the limit.
+abbrev pub IsSubBound : ℕ → Plan → LinkPlan → ℕ → List Sender → Bound → Type 0
+IsSubBound late plan link sub senders NoPeriod = have_periods link sub senders ≡ false
+IsSubBound late plan link sub senders (Found worst) = IsSubWait late plan link sub senders worst.wait
+    × IsSubNeed late plan link sub senders worst.need
+IsSubBound late plan link sub senders Overloaded = (have_periods link sub senders ≡ true)
+    × ((mates : ℕ) → AreMates plan link sub senders mates → IsGroupOver late plan link sub senders mates)
+IsSubBound late plan link sub senders TooLong = (have_periods link sub senders ≡ true)
+    × ((mates : ℕ) × IsGroupWithin late plan link sub senders mates)
+    × ((mates wait : ℕ) → IsGroupWait late plan link sub senders mates wait → ⊥)
 
 -- the wait by traffic that is known
 abbrev pub wait_of : Bound → Option ℕ
@@ -173,8 +291,8 @@ wait_of TooLong = None
 
 -- the bound of a sender's sub-VL
 abbrev pub IsBoundOf : ℕ → Plan → List Sender → Sender → Bound → Type 0
-IsBoundOf late plan senders sender bound = IsSubBound (round_of late plan (link_of plan sender.port))
-    (link_of plan sender.port) sender.port.sub senders bound
+IsBoundOf late plan senders sender bound =
+    IsSubBound late plan (link_of plan sender.port) sender.port.sub senders bound
 
 -- a period, if there is one, of at least a microsecond, and a jitter of at most the period
 abbrev pub IsGoodPeriod : Sender → Type 0

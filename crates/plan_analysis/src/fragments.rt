@@ -29,7 +29,7 @@ pub(crate) fn is_on(link: &LinkPlan, sub: u8, port: &PortPlan) -> bool
 }
 
 /// Returns true if some port sends on sub-VL `sub` of a link.
-fn has_port(link: &LinkPlan, sub: u8, ports: &[PortPlan]) -> bool
+pub(crate) fn has_port(link: &LinkPlan, sub: u8, ports: &[PortPlan]) -> bool
     ensures { result ≡ has_port_on link.now ports.now sub }
 {
     ports.iter().any(|port| is_on(link, sub, port))

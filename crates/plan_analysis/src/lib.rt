@@ -6,6 +6,7 @@
 mod analysis;
 mod busy_time;
 mod fragments;
+mod groups;
 pub mod laws;
 mod load;
 mod memory;
@@ -14,8 +15,7 @@ mod traffic;
 pub use analysis::{
     Analysis, JITTER_LIMIT, LATENESS_LIMIT, LinkAnalysis, NetworkRow, PortAnalysis, analyze,
 };
-pub use busy_time::Worst;
 pub use fragments::used_sub_vls;
 pub use load::{OWN_JITTER, carries};
 pub use memory::{LARGE_MEMORY, Memory, SubRow, table_memory};
-pub use traffic::{Bound, Sender, traffic_bounds};
+pub use traffic::{Bound, Sender, Worst, traffic_bounds};

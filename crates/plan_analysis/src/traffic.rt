@@ -1,12 +1,12 @@
 //! The longest wait of a message, and the places that its queue needs, if each port of its sub-VL keeps a period.
-ghost use Rattle.std.specs.Prelude.{◌≡◌, ◌+◌, ◌*◌, ◌≤◌, ◌<◌, ℕ, All, IfOk, IfSome, IfNone, length, option_map, get_or};
+ghost use Rattle.std.specs.Prelude.{◌≡◌, ◌+◌, ◌&&◌, ◌≤◌, ◌<◌, ℕ, true, All, IfOk, IfSome, length, get_or, min, unwrap_or};
 ghost use Rattle.afdx_plan.specs.Plan.{IsLink};
 ghost use Rattle.plan_analysis.specs.declared.traffic.Bound.TheVariants.{NoPeriod};
-ghost use Rattle.plan_analysis.specs.Traffic.{IsBusyTime, IsBoundOf, IsWaitByTraffic, IsNeed, IsBoundBy, IsSubBound, busy_limit, IsFlow, AreFlowsOf, AreSendersOf, AreBoundsOf, HasGoodPeriod, sender_at, wait_of, round_of as round_of_link};
+ghost use Rattle.plan_analysis.specs.Traffic.{IsFlow, IsBoundOf, IsSubBound, AreSendersOf, AreBoundsOf, HasGoodPeriod, have_periods, flows_of, least_of, messages, sender_at, wait_of};
 
 use crate::analysis::{LATENESS_LIMIT, link_of};
-use crate::busy_time::{Flow, Worst, busy_rounds, is_overloaded, worst_of};
-use crate::fragments::{is_on, port_pieces, used_sub_vls};
+use crate::busy_time::{Flow, messages_by};
+use crate::groups::{flows_in, flows_on, group_of, round_of};
 use afdx_plan::{Config, LinkPlan, PortPlan};
 use std::alloc::{AllocError, Global};
 
@@ -19,15 +19,24 @@ pub struct Sender {
     pub jitter: u64,
 }
 
-/// The bound of a sub-VL by its traffic.
+/// The worst of a sub-VL whose ports keep their periods.
+#[derive(Clone, Copy, Debug, PartialEq, Eq)]
+pub struct Worst {
+    // the longest time from the acceptance of a message to the release of its last fragment, in microseconds
+    pub wait: u64,
+    // the places that its queue needs, so that it never refuses a message as full
+    pub need: u64,
+}
+
+/// The bound of a sub-VL by the traffic of its link.
 #[derive(Clone, Copy, Debug, PartialEq, Eq)]
 pub enum Bound {
     // a port of the sub-VL has no period
     NoPeriod,
     Found(Worst),
-    // the sub-VL's ports hand over more than its link carries, so that it never catches up
+    // each group of sub-VLs with this one hands over more than its turns carry
     Overloaded,
-    // the sub-VL's longest busy time takes more than 65,536 rounds
+    // no group has a longest busy time and a wait of at most 65,536 rounds
     TooLong,
 }
 
@@ -116,66 +125,85 @@ fn new_bound(
     ensures { IfOk result (IsBoundOf lateness config.now senders.now sender.now) }
 {
     let link = link_of(config, &sender.port);
-    let round = round_of(lateness, config, link);
-    match flows_on(alloc, link, sender.port.sub, senders)? {
-        Some(flows) => Ok(bound_by(round, flows.as_slice())),
+    let sub = sender.port.sub;
+    match flows_on(alloc, link, sub, senders)? {
+        Some(own) => bound_by(alloc, config, lateness, link, sub, senders, own.as_slice()),
         None => Ok(Bound::NoPeriod),
     }
 }
 
-/// Returns the round of a link, in microseconds: a BAG and the lateness for each sub-VL with a port.
-fn round_of(late: u64, config: &Config, link: &LinkPlan) -> u64
-    requires late { late ≤ LATENESS_LIMIT }
-    requires link { IsLink link.now }
-    ensures value { result ≡ round_of_link late config.now link.now }
-    ensures most { result ≤ 4512000 }
-{
-    used_sub_vls(link, config.ports()) * (link.bag.micros() + late)
-}
-
-/// Returns the flows of the senders on sub-VL `sub` of a link, if each has a period.
-fn flows_on(
+/// Returns the bound of sub-VL `sub` of a link, whose flows are `own`.
+fn bound_by(
     alloc: Global,
+    config: &Config,
+    lateness: u64,
     link: &LinkPlan,
     sub: u8,
     senders: &[Sender],
-) -> Result<Option<Vec<Flow>>, AllocError>
-    requires { All HasGoodPeriod senders.now }
-    ensures are { IfOk result (λ o. AreFlowsOf link.now sub senders.now (option_map (λ flows. flows.items) o)) }
-    ensures good { IfOk result (λ o. IfSome o (λ flows. All IsFlow flows.items)) }
-    ensures few { IfOk result (λ o. IfSome o (λ flows. length flows.items ≤ length senders.now)) }
+    own: &[Flow],
+) -> Result<Bound, AllocError>
+    requires late { lateness ≤ LATENESS_LIMIT }
+    requires link { IsLink link.now }
+    requires good { All HasGoodPeriod senders.now }
+    requires few { (length senders.now ≤ 256) × (length own.now ≤ 256) }
+    requires periods { have_periods link.now sub senders.now ≡ true }
+    requires own { own.now ≡ flows_of link.now sub senders.now }
+    requires flows { All IsFlow own.now }
+    ensures { IfOk result (IsSubBound lateness config.now link.now sub senders.now) }
 {
-    let mut flows = Vec::new(alloc);
-    for sender in senders {
-        if is_on(link, sub, &sender.port) {
-            match sender.period {
-                Some(period) => flows.push(Flow {
-                    fragments: port_pieces(link, &sender.port),
-                    period,
-                    jitter: sender.jitter,
-                })?,
-                None => return Ok(None),
-            }
+    if own.is_empty() {
+        return Ok(Bound::TooLong);
+    }
+    let alone = group_of(round_of(lateness, config, link, sub, 0), own, own.len());
+    let mut over = alone.over;
+    let mut wait = alone.wait();
+    for mates in 1..16 {
+        let flows = flows_in(alloc, config, link, sub, senders, mates, own)?;
+        if let Some(flows) = flows {
+            let group = group_of(
+                round_of(lateness, config, link, sub, mates),
+                flows.as_slice(),
+                own.len(),
+            );
+            over = both(over, group.over);
+            wait = least(wait, group.wait());
         }
     }
-    Ok(Some(flows))
+    match wait {
+        Some(wait) => Ok(Bound::Found(Worst {
+            wait,
+            need: need_of(own, wait, alone.places()),
+        })),
+        None if over => Ok(Bound::Overloaded),
+        None => Ok(Bound::TooLong),
+    }
 }
 
-/// Returns the bound of a sub-VL with these flows.
-fn bound_by(round: u64, flows: &[Flow]) -> Bound
-    requires round { round ≤ 4512000 }
-    requires flows { All IsFlow flows.now }
-    requires few { length flows.now ≤ 256 }
-    ensures { IsBoundBy round flows.now result }
+/// Returns whether both are true.
+fn both(one: bool, other: bool) -> bool
+    ensures { result ≡ (one && other) }
 {
-    if is_overloaded(round, flows) {
-        return Bound::Overloaded;
+    one && other
+}
+
+/// Returns the lesser of two waits, or the one that is known.
+fn least(one: Option<u64>, other: Option<u64>) -> Option<u64>
+    ensures { result ≡ least_of one other }
+{
+    match (one, other) {
+        (Some(one), Some(other)) => Some(one.min(other)),
+        (Some(one), None) => Some(one),
+        (None, other) => other,
     }
-    if round == 0 || flows.is_empty() {
-        return Bound::TooLong;
-    }
-    match busy_rounds(round, flows) {
-        Some(rounds) => Bound::Found(worst_of(round, flows, rounds)),
-        None => Bound::TooLong,
-    }
+}
+
+/// Returns the places that a queue needs, by the wait of its messages and by the backlog, if that is known.
+fn need_of(own: &[Flow], wait: u64, backlog: Option<u64>) -> u64
+    requires flows { All IsFlow own.now }
+    requires few { length own.now ≤ 512 }
+    requires wait { wait ≤ 369623040000 }
+    ensures { result ≡ min (unwrap_or backlog (messages own.now wait)) (messages own.now wait) }
+{
+    let held = messages_by(own, wait);
+    backlog.unwrap_or(held).min(held)
 }

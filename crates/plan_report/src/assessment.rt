@@ -178,6 +178,14 @@ impl Row<'_> {
         }
     }
 
+    /// Returns the jitter of the port, in microseconds, if it has a period.
+    pub fn jitter(&self) -> Option<u64> {
+        match self.demand.period {
+            Some(_) => Some(self.demand.jitter),
+            None => None,
+        }
+    }
+
     /// Returns the time from the end of the longest wait to the deadline: negative if it is missed.
     pub fn slack(&self) -> Option<i128> {
         Some(self.demand.deadline? as i128 - self.wait() as i128)
@@ -273,7 +281,7 @@ fn missed(row: &Row<'_>, without: &'static str) -> &'static str {
 /// The header of the rows for a spreadsheet.
 const HEADER: &str =
     "port,name,link,sub_vl,fragments,period_us,deadline_us,wait_queue_us,wait_traffic_us,holds,\
-    slack_us,missed,capacity,ports,greatest,bytes,need,suffices,partitions";
+    slack_us,missed,capacity,ports,greatest,bytes,need,suffices,partitions,jitter_us";
 
 /// Writes the rows for a spreadsheet, with a header: a row for each port, a row for each sub-VL, and the memory of the
 /// whole end system. A field that a row lacks is empty.
@@ -288,15 +296,17 @@ pub fn write_rows<W: Write + Drop>(
     for row in assessment.rows.iter() {
         write_fields(out, row)?;
         skip(out, 7)?;
+        put(out, Cell(row.jitter(), ""))?;
         out.end_record()?;
     }
     for queue in assessment.queues.iter() {
         write_sub(out, queue)?;
+        skip(out, 1)?;
         out.end_record()?;
     }
     skip(out, 15)?;
     put(out, assessment.analysis.memory.bytes)?;
-    skip(out, 3)?;
+    skip(out, 4)?;
     out.end_record()?;
     out.flush()
 }

@@ -5,6 +5,6 @@ abbrev pub invariant-loop-flow : goal.invariant-loop-flow
 invariant-loop-flow l = record {
   fragments : l.fragments ≡ arrived (take l.flow-index l.flows) l.time;
   messages : l.messages ≡ messages (take l.flow-index l.flows) l.time;
-  bound : l.fragments ≤ 202257727488684 * l.flow-index;
-  few : l.messages ≤ 591396864002 * l.flow-index;
+  bound : l.fragments ≤ 252822159360684 * l.flow-index;
+  few : l.messages ≤ 739246080002 * l.flow-index;
 }

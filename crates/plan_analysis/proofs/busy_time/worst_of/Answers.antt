@@ -1,59 +1,73 @@
-use Rattle.plan_analysis.proofs.Names.{IsWaitByTraffic, ℕ, ◌*◌, arith, places_at, wait_at}
-use Rattle.plan_analysis.proofs.Busy.{arrived_within, cover_more, max_within, places_by_messages, wait_by_messages, wait_most}
+use Rattle.plan_analysis.proofs.Names.{ℕ, ◌*◌, ◌<◌, ◌≤◌, arith, arrived, busy_limit, length, mul-le, places_at, IsSentIn}
+use Rattle.plan_analysis.proofs.Busy.{arrived_within, cover_more, places_by_messages, sent_by_messages}
+use Rattle.plan_analysis.proofs.Waits.{first_met, no_wait, sent_more}
 use Rattle.plan_analysis.proofs.busy_time.worst_of.Goals as goal
+
+pub at_time-requires-clause-arrived : goal.at_time-requires-clause-arrived
+at_time-requires-clause-arrived c = arrived_within c.args.own.now 0 (c.args.round * c.args.rounds) _ (omega arith) c.requires.arrived
+
+pub returns-in_err-peak-clause-none : goal.returns-in_err-peak-clause-none
+returns-in_err-peak-clause-none c = rw c.from_residual.ensures
+    (no_wait c.args.round c.args.own.now c.args.rest.now (c.args.round * c.args.rounds) c.requires.busy
+    (0, omega arith, c.in_err-peak.ensures.none))
+
+pub returns-in_err-peak-2-clause-none : goal.returns-in_err-peak-2-clause-none
+returns-in_err-peak-2-clause-none c = rw c.from_residual-in_err-peak-2.ensures
+    (no_wait c.args.round c.args.own.now c.args.rest.now (c.args.round * c.args.rounds) c.requires.busy
+    c.in_err-peak-2.ensures.none)
+
+pub loop-flow-init : goal.loop-flow-init
+loop-flow-init c =
+    let told = c.in_ok-peak.ensures in
+    record {
+      short = told.short;
+      met = first_met c.args.round c.args.own.now c.args.rest.now (c.args.round * c.args.rounds) c.in_ok-peak.peak.wait
+          c.requires.some.0 c.requires.own c.requires.some.1 told.met told.sent;
+      within = (0, omega arith, omega (arith, told.places));
+      start = told.sent;
+      first = omega (arith, told.places);
+      waits = λ i d lt. absurd (omega arith);
+      places = λ i d lt. absurd (omega arith);
+    }
 
 pub loop-flow-preserved : goal.loop-flow-preserved
 loop-flow-preserved c =
-    let flows = c.args.flows.now in
-    let wait : ℕ → ℕ = wait_at c.args.round flows in
-    let places : ℕ → ℕ = places_at c.args.round flows in
-    let busy = c.args.round * c.args.rounds in
+    let own = c.args.own.now in
+    let rest = c.args.rest.now in
+    let round = c.args.round in
+    let old = c.loop-flow.peak in
+    let new = c.in_ok-peak-2.peak in
+    let told = c.in_ok-peak-2.ensures in
+    let here : c.loop-flow.flow-index < length own = omega (arith, c.loop-flow-test.true, c.loop-flow.auto.flow-index-end) in
     record {
-      wait = max_within wait busy c.loop-flow.worst.wait c.worst_at.result.wait c.or-worst.result.wait c.or-worst.ensures.wait
-          c.loop-flow.invariant.wait c.worst_at.ensures.wait;
-      need = max_within places busy c.loop-flow.worst.need c.worst_at.result.need c.or-worst.result.need c.or-worst.ensures.need
-          c.loop-flow.invariant.need c.worst_at.ensures.need;
-      start = omega (arith, c.or-worst.ensures.wait, c.loop-flow.invariant.start);
-      first = omega (arith, c.or-worst.ensures.need, c.loop-flow.invariant.first);
-      waits = cover_more wait flows busy c.loop-flow.worst.wait c.worst_at.result.wait c.or-worst.result.wait c.loop-flow.flow-index _
-          (omega (arith, c.loop-flow-test.true, c.loop-flow.auto.flow-index-end)) c.loop-flow.invariant.waits c.worst_at.ensures.waits
-          c.or-worst.ensures.wait;
-      needs = cover_more places flows busy c.loop-flow.worst.need c.worst_at.result.need c.or-worst.result.need c.loop-flow.flow-index _
-          (omega (arith, c.loop-flow-test.true, c.loop-flow.auto.flow-index-end)) c.loop-flow.invariant.needs c.worst_at.ensures.needs
-          c.or-worst.ensures.need;
+      short = told.short;
+      met = told.met;
+      within = told.within;
+      start = sent_more round (arrived own 0) rest 0 old.wait new.wait told.longer c.loop-flow.invariant.start;
+      first = omega (arith, told.more, c.loop-flow.invariant.first);
+      waits = cover_more (λ (t : ℕ). IsSentIn round (arrived own t) rest t old.wait) (λ (t : ℕ). IsSentIn round (arrived own t) rest t new.wait)
+          own (round * c.args.rounds) c.loop-flow.flow-index _ here
+          (λ t. sent_more round (arrived own t) rest t old.wait new.wait told.longer) c.loop-flow.invariant.waits told.waits;
+      places = cover_more (λ (t : ℕ). places_at round own t ≤ old.places) (λ (t : ℕ). places_at round own t ≤ new.places)
+          own (round * c.args.rounds) c.loop-flow.flow-index _ here (λ t le. omega (arith, told.more)) c.loop-flow.invariant.places told.places;
     }
 
-pub handed_by-requires-clause-time : goal.handed_by-requires-clause-time
-handed_by-requires-clause-time c = wait_most c.args.round c.args.flows.now (c.args.round * c.args.rounds) c.loop-flow.worst.wait
-    c.requires.round c.requires.arrived c.loop-flow.invariant.wait
+pub returns-clause-wait : goal.returns-clause-wait
+returns-clause-wait c = record {
+  busy = c.args.round * c.args.rounds;
+  is_busy = c.requires.busy;
+  soon = mul-le c.args.round c.args.rounds c.args.round busy_limit (omega arith) c.requires.rounds;
+  met = c.loop-flow.invariant.met;
+  most = sent_by_messages c.args.round c.args.own.now c.args.rest.now (c.args.round * c.args.rounds) c.loop-flow.peak.wait c.requires.own
+      c.loop-flow.invariant.start
+      (λ i d lt turn le. c.loop-flow.invariant.waits i d (omega (arith, c.loop-flow-test.false, c.loop-flow.auto.flow-index-end)) turn le);
+  short = c.loop-flow.invariant.short;
+}
 
-pub returns : goal.returns
-returns c =
-    let flows = c.args.flows.now in
-    let busy = c.args.round * c.args.rounds in
-    let wait : IsWaitByTraffic c.args.round flows c.loop-flow.worst.wait = record {
-      busy = busy;
-      is_busy = c.requires.busy;
-      met = c.loop-flow.invariant.wait;
-      most = wait_by_messages c.args.round flows busy c.loop-flow.worst.wait c.requires.flows c.loop-flow.invariant.start
-          (λ i d lt turn le. c.loop-flow.invariant.waits i d (omega (arith, c.loop-flow-test.false, c.loop-flow.auto.flow-index-end)) turn le);
-    } in
-    record {
-      wait = wait;
-      need = record {
-        backlog = c.loop-flow.worst.need;
-        is_backlog = record {
-          busy = busy;
-          is_busy = c.requires.busy;
-          met = c.loop-flow.invariant.need;
-          most = places_by_messages c.args.round flows busy c.loop-flow.worst.need c.requires.flows c.requires.some.1 c.loop-flow.invariant.first
-              (λ i d lt turn le. c.loop-flow.invariant.needs i d (omega (arith, c.loop-flow-test.false, c.loop-flow.auto.flow-index-end)) turn le);
-        };
-        wait = c.loop-flow.worst.wait;
-        is_wait = wait;
-        less = grind arith;
-      };
-    }
-
-pub at_time-worst-requires-clause-arrived : goal.at_time-worst-requires-clause-arrived
-at_time-worst-requires-clause-arrived c = arrived_within c.args.flows.now 0 (c.args.round * c.args.rounds) _ (omega arith) c.requires.arrived
+pub returns-clause-places : goal.returns-clause-places
+returns-clause-places c = record {
+  met = c.loop-flow.invariant.within;
+  most = places_by_messages c.args.round c.args.own.now (c.args.round * c.args.rounds) c.loop-flow.peak.places c.requires.own
+      c.requires.some.1 c.loop-flow.invariant.first
+      (λ i d lt turn le. c.loop-flow.invariant.places i d (omega (arith, c.loop-flow-test.false, c.loop-flow.auto.flow-index-end)) turn le);
+}

@@ -1,13 +1,14 @@
-use Rattle.plan_analysis.proofs.Names.{◌≤◌, IsWithin, places_at, wait_at}
+use Rattle.plan_analysis.proofs.Names.{ℕ, ◌*◌, ◌≤◌, IsMetBy, IsSentIn, IsWithin, arrived, busy_limit, places_at}
 use Rattle.plan_analysis.proofs.Busy.{AreCovered}
 use Rattle.plan_analysis.proofs.busy_time.worst_of.Given as goal
 
 abbrev pub invariant-loop-flow : goal.invariant-loop-flow
 invariant-loop-flow l = record {
-  wait : IsWithin (wait_at l.round l.flows) l.busy l.worst.wait;
-  need : IsWithin (places_at l.round l.flows) l.busy l.worst.need;
-  start : wait_at l.round l.flows 0 ≤ l.worst.wait;
-  first : places_at l.round l.flows 0 ≤ l.worst.need;
-  waits : AreCovered (wait_at l.round l.flows) l.flows l.busy l.worst.wait l.flow-index;
-  needs : AreCovered (places_at l.round l.flows) l.flows l.busy l.worst.need l.flow-index;
+  short : l.peak.wait ≤ l.round * busy_limit;
+  met : IsMetBy l.round l.own l.rest l.busy l.peak.wait;
+  within : IsWithin (places_at l.round l.own) l.busy l.peak.places;
+  start : IsSentIn l.round (arrived l.own 0) l.rest 0 l.peak.wait;
+  first : places_at l.round l.own 0 ≤ l.peak.places;
+  waits : AreCovered (λ (t : ℕ). IsSentIn l.round (arrived l.own t) l.rest t l.peak.wait) l.own l.busy l.flow-index;
+  places : AreCovered (λ (t : ℕ). places_at l.round l.own t ≤ l.peak.places) l.own l.busy l.flow-index;
 }

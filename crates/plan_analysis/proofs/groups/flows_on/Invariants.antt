@@ -1,5 +1,5 @@
 use Rattle.plan_analysis.proofs.Names.{◌≡◌, ◌≤◌, true, length, take, All, IsFlow, have_periods, flows_of}
-use Rattle.plan_analysis.proofs.traffic.flows_on.Given as goal
+use Rattle.plan_analysis.proofs.groups.flows_on.Given as goal
 
 abbrev pub invariant-loop-sender : goal.invariant-loop-sender
 invariant-loop-sender l = record {
