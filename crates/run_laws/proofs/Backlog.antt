@@ -1,7 +1,7 @@
 -- How many messages a queue holds, if the ports of its sub-VL keep periods and it releases a fragment each round.
-use Rattle.run_laws.proofs.Names.{ℕ, suc, zero, ◌≡◌, ◌+◌, ◌-◌, ◌*◌, ◌/◌, ◌≤◌, List, [], ◌∷◌, ◌++◌, Bool, true, false, cond, nat_eq, nat_le, nat_tests, length, map, arith, refl, ap, sym, subst, ◌∙◌, inl, inr, cases_lt, map-append, length-map, filter, filter-append, All, All-cons, All-head, All-nil, All-tail, All-weaker, All-filter, all_back, all_front, all_of_map, filter_passes, sum_by, sum_by-append, sum_by-cons, sum_by-filter_both, not, mul-le, le-div, div-zero, div-mul-le_self, unwrap_or, div_ceil, Plan, IsPlan, link_plan_at, room_of, LinkPlan, PortPlan, A, Sent, IsAllowed, fragments_of, pieces_of, port_pieces, is_on, Sender, have_periods, senders_on, flows_of, flow_of, arrived, messages, greatest_message, Arrival, AreApart, is_before, messages_in, times_in, queued_of}
+use Rattle.run_laws.proofs.Names.{ℕ, suc, zero, ◌≡◌, ◌+◌, ◌-◌, ◌*◌, ◌/◌, ◌≤◌, List, [], ◌∷◌, ◌++◌, Bool, true, false, cond, nat_eq, nat_le, nat_tests, length, map, arith, refl, ap, sym, subst, ◌∙◌, inl, inr, cases_lt, map-append, length-map, filter, filter-append, All, All-cons, All-head, All-nil, All-tail, All-weaker, All-filter, all_back, all_front, all_of_map, filter_passes, sum_by, sum_by-append, sum_by-cons, sum_by-filter_both, not, mul-le, le-div, div-zero, div-mul-le_self, unwrap_or, div_ceil, Plan, IsPlan, link_plan_at, room_of, LinkPlan, PortPlan, A, Sent, IsAllowed, fragments_of, pieces_of, port_pieces, is_on, Sender, have_periods, senders_on, flows_of, flow_of, arrived, messages, greatest_message, Arrival, AreApart, KeepPeriods, get_or, is_before, messages_in, times_in, queued_of}
 use Rattle.run_laws.proofs.Pieces.{fragments_count}
-use Rattle.run_laws.proofs.KeptPeriods.{AreSized, IsAmong, IsKept, IsTimed, by_senders, filter_all, is_within, most_is, most_of, of_sender, pieces_sized, still_kept, weight_of}
+use Rattle.run_laws.proofs.KeptPeriods.{AreSized, IsAmong, IsKept, IsTimed, by_senders, filter_all, front_kept, is_within, most_is, most_of, of_sender, pieces_sized, still_kept, weight_of}
 
 -- The queue.
 
@@ -144,6 +144,16 @@ front_apart p (x ∷ xs) ys apart =
 pub back_apart : (p : ℕ) (xs ys : List Arrival) → AreApart p (times_in (xs ++ ys)) → AreApart p (times_in ys)
 back_apart p [] ys apart = apart
 back_apart p (x ∷ xs) ys apart = back_apart p xs ys apart.1
+
+-- the first messages of a run keep the periods too
+pub front_keeps : (senders : List Sender) (start : ℕ) (xs ys : List Arrival) → KeepPeriods senders start (xs ++ ys) → KeepPeriods senders start xs
+front_keeps senders start xs ys keeps = record {
+  ordered = (
+    all_front (λ (n : ℕ). start + 0 ≤ n) (times_in xs) (times_in ys) (times_in (xs ++ ys)) (sym (map-append (λ (a : Arrival). a.at) xs ys)) keeps.ordered.0,
+    front_apart 0 xs ys keeps.ordered.1,
+  );
+  periods = λ i d lt. front_kept (get_or senders i d) xs ys (get_or senders i d).period (keeps.periods i d lt);
+}
 
 -- one of the times, those before and those after it
 pub record AreRound (xs : List Arrival) (a : Arrival) (ys : List Arrival) : Type 0 where

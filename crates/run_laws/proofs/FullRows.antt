@@ -1,55 +1,54 @@
 -- The worked requests of the law of a queue that is never full, by computation.
-use Rattle.run_laws.proofs.Names.{AreTimely, byte_sender, late_senders, load_at, ℕ, ◌≡◌, ◌+◌, ◌≤◌, List, [], ◌∷◌, refl, arith, Some, nil_isnt_cons, cutting, fragments_at, addresses, header_front, internet_header, link_header, udp_header, datagram, unnumbered, log, PortPlan, port_plan_at, IsWaitByTraffic, IsNeed, AreApart, KeepPeriods, AreSendersOf, byte_plan, bytes_accepted, no_line, byte_line, failed_line, short_port, short_sent, AsksAfter, asked_at, QueueName, Refuses, Full, AskCase, FillsItsQueue, NeedsPlaces, asking_port, full_port, each, other_each, ap}
+use Rattle.run_laws.proofs.Names.{AreTimely, byte_sender, late_senders, load_at, ℕ, ◌≡◌, ◌+◌, ◌≤◌, [], ◌∷◌, refl, arith, Some, nil_isnt_cons, cutting, fragments_at, addresses, header_front, internet_header, link_header, udp_header, datagram, unnumbered, log, PortPlan, port_plan_at, IsKnownBacklog, IsWaitInGroup, IsNeed, Option, None, List, min, unwrap_or, ◌*◌, ◌/◌, AreApart, KeepPeriods, AreSendersOf, byte_plan, bytes_accepted, no_line, byte_line, failed_line, short_port, short_sent, AsksAfter, asked_at, QueueName, Refuses, Full, AskCase, FillsItsQueue, NeedsPlaces, asking_port, full_port, each, other_each, ap}
 use Rattle.afdx_frame.specs.Checksum.{checksum}
 use Rattle.run_laws.proofs.NeededRuns.{in_time}
-use Rattle.run_laws.proofs.TrafficRows.{byte_wait, keeps_one, near_fails, needs_traffic}
+use Rattle.run_laws.proofs.TrafficRows.{byte_none, byte_wait, keeps_one, near_fails, needs_traffic}
 
 -- with a period of 1,001
-slow_wait : IsWaitByTraffic 1000 (record { fragments = 1; period = 1001; jitter = 0 } ∷ []) 1000
+slow_wait : IsWaitInGroup 1000 (record { fragments = 1; period = 1001; jitter = 0 } ∷ []) [] 1000
 slow_wait = record {
   busy = 1000;
   is_busy = record { some = omega arith; is = refl; least = λ t some is. grind arith };
-  met = (0, omega arith, refl);
-  most = λ t le. grind arith;
+  soon = omega arith;
+  met = (0, omega arith, record { some = omega arith; end = 1000; enough = omega arith; least = λ t enough. grind arith; is = refl });
+  most = λ t le. (1000 * (1 + (t + 0) / 1001), grind arith, grind arith);
+  short = omega arith;
 }
 
-slow_need : IsNeed 1000 (record { fragments = 1; period = 1001; jitter = 0 } ∷ []) 1
+slow_need : IsNeed 1000 (record { fragments = 1; period = 1001; jitter = 0 } ∷ []) 1000 1
 slow_need = record {
-  backlog = 1;
+  backlog = Some 1;
   is_backlog = record {
     busy = 1000;
     is_busy = record { some = omega arith; is = refl; least = λ t some is. grind arith };
-    met = (0, omega arith, refl);
-    most = λ t le. grind arith;
+    is_most = record { met = (0, omega arith, refl); most = λ t le. grind arith };
   };
-  wait = 1000;
-  is_wait = slow_wait;
   less = refl;
 }
 
 -- with a period of a round
-byte_need : IsNeed 1000 (record { fragments = 1; period = 1000; jitter = 0 } ∷ []) 2
+byte_need : IsNeed 1000 (record { fragments = 1; period = 1000; jitter = 0 } ∷ []) 1000 2
 byte_need = record {
-  backlog = 2;
+  backlog = Some 2;
   is_backlog = record {
     busy = 1000;
     is_busy = record { some = omega arith; is = refl; least = λ t some is. grind arith };
-    met = (1000, omega arith, refl);
-    most = λ t le. grind arith;
+    is_most = record { met = (1000, omega arith, refl); most = λ t le. grind arith };
   };
-  wait = 1000;
-  is_wait = byte_wait;
   less = refl;
 }
 
-one_less : IsNeed 1000 (record { fragments = 1; period = 1000; jitter = 0 } ∷ []) 1 → ⊥
-one_less of =
-    let busy = of.is_backlog.is_busy.some in
-    let long : 1000 ≤ of.is_backlog.busy = (let is = of.is_backlog.is_busy.is in grind arith) in
-    let two = of.is_backlog.most 1000 long in
-    let far = of.is_wait.most 0 (omega arith) in
-    let less = of.less in
-    grind arith
+one_less : IsNeed 1000 (record { fragments = 1; period = 1000; jitter = 0 } ∷ []) 1000 1 → ⊥
+one_less of = by_backlog of.backlog of.is_backlog of.less
+  where
+    by_backlog : (o : Option ℕ) → IsKnownBacklog 1000 (record { fragments = 1; period = 1000; jitter = 0 } ∷ []) o
+        → 1 ≡ min (unwrap_or o 2) 2 → ⊥
+    by_backlog None none less = absurd (omega arith)
+    by_backlog (Some b) known less =
+        let some = known.is_busy.some in
+        let long : 1000 ≤ known.busy = (let is = known.is_busy.is in grind arith) in
+        let two = known.is_most.most 1000 long in
+        grind arith
 
 refuses : (queue : QueueName) → Refuses (asking_port queue) 1 Full (full_port queue)
 refuses queue = record { may = record { some = omega arith; most = omega arith }; queue = (omega arith, omega arith, refl); same = refl }
@@ -100,25 +99,24 @@ keep_one = keeps_one _ 0 1001 (asked_at 0 (short_sent 0) ∷ []) refl (grind ari
 at_once : KeepPeriods (each 1001) 0 (asked_at 0 (short_sent 0) ∷ asked_at 0 (short_sent 0) ∷ []) → ⊥
 at_once keeps = near_fails 1001 0 0 0 (omega arith) (keeps.periods 0 byte_sender (omega arith))
 
-late_wait : IsWaitByTraffic 1000 (record { fragments = 1; period = 2000; jitter = 999 } ∷ []) 1000
+late_wait : IsWaitInGroup 1000 (record { fragments = 1; period = 2000; jitter = 999 } ∷ []) [] 1000
 late_wait = record {
   busy = 1000;
   is_busy = record { some = omega arith; is = refl; least = λ t some is. grind arith };
-  met = (0, omega arith, refl);
-  most = λ t le. grind arith;
+  soon = omega arith;
+  met = (0, omega arith, record { some = omega arith; end = 1000; enough = omega arith; least = λ t enough. grind arith; is = refl });
+  most = λ t le. (1000 * (1 + (t + 999) / 2000), grind arith, grind arith);
+  short = omega arith;
 }
 
-late_need : IsNeed 1000 (record { fragments = 1; period = 2000; jitter = 999 } ∷ []) 1
+late_need : IsNeed 1000 (record { fragments = 1; period = 2000; jitter = 999 } ∷ []) 1000 1
 late_need = record {
-  backlog = 1;
+  backlog = Some 1;
   is_backlog = record {
     busy = 1000;
     is_busy = record { some = omega arith; is = refl; least = λ t some is. grind arith };
-    met = (0, omega arith, refl);
-    most = λ t le. grind arith;
+    is_most = record { met = (0, omega arith, refl); most = λ t le. grind arith };
   };
-  wait = 1000;
-  is_wait = late_wait;
   less = refl;
 }
 
@@ -159,7 +157,8 @@ fills_asks : AskCase 10 (each 1001) 1 0 0 0 [] [] 0 [] no_line no_line
 unfolding log
 fills_asks = record {
   senders_are = slow_is;
-  need_is = (refl, slow_need);
+  wait_is = (refl, (byte_none (each 1001), slow_wait));
+  need_is = slow_need;
   fits = omega arith;
   asks = asks_none;
   starts = tt;
@@ -180,7 +179,8 @@ foreign_asks : AskCase 0 (other_each 1001) 1 1 0 0 (0 ∷ []) [] 0 [] no_line no
 unfolding log
 foreign_asks = record {
   senders_are = other_is;
-  need_is = (refl, slow_need);
+  wait_is = (refl, (byte_none (other_each 1001), slow_wait));
+  need_is = slow_need;
   fits = omega arith;
   asks = asks_one;
   starts = tt;
@@ -195,7 +195,8 @@ short_asks : AskCase 1 (each 1000) 1 1 0 0 (0 ∷ []) [] 1000 [] no_line no_line
 unfolding log
 short_asks = record {
   senders_are = byte_is;
-  need_is = λ need. one_less need.1;
+  wait_is = (refl, (byte_none (each 1000), byte_wait));
+  need_is = one_less;
   fits = omega arith;
   asks = asks_one;
   starts = tt;
@@ -210,7 +211,8 @@ small_asks : AskCase 2 (each 1000) 2 1 0 0 (0 ∷ []) [] 1000 [] no_line no_line
 unfolding log
 small_asks = record {
   senders_are = byte_is;
-  need_is = (refl, byte_need);
+  wait_is = (refl, (byte_none (each 1000), byte_wait));
+  need_is = byte_need;
   fits = two_isnt;
   asks = asks_one;
   starts = tt;
@@ -225,7 +227,8 @@ unaccepted_asks : AskCase 3 (each 1001) 1 0 0 0 (0 ∷ []) [] 1001 (1000 ∷ [])
 unfolding log
 unaccepted_asks = record {
   senders_are = slow_is;
-  need_is = (refl, slow_need);
+  wait_is = (refl, (byte_none (each 1001), slow_wait));
+  need_is = slow_need;
   fits = omega arith;
   asks = asks_unaccepted;
   starts = tt;
@@ -240,7 +243,8 @@ early_asks : AskCase 4 (each 1001) 1 2 1 0 (0 ∷ []) [] 1001 (1000 ∷ []) (byt
 unfolding log
 early_asks = record {
   senders_are = slow_is;
-  need_is = (refl, slow_need);
+  wait_is = (refl, (byte_none (each 1001), slow_wait));
+  need_is = slow_need;
   fits = omega arith;
   asks = asks_two;
   starts = needs_traffic.early.starts;
@@ -255,7 +259,8 @@ owing_asks : AskCase 5 (each 1001) 1 1 1 0 [] [] 0 [] no_line no_line
 unfolding log
 owing_asks = record {
   senders_are = slow_is;
-  need_is = (refl, slow_need);
+  wait_is = (refl, (byte_none (each 1001), slow_wait));
+  need_is = slow_need;
   fits = omega arith;
   asks = asks_one;
   starts = tt;
@@ -270,7 +275,8 @@ unkept_asks : AskCase 6 (each 1001) 1 1 0 0 (0 ∷ []) [] 0 [] no_line no_line
 unfolding log
 unkept_asks = record {
   senders_are = slow_is;
-  need_is = (refl, slow_need);
+  wait_is = (refl, (byte_none (each 1001), slow_wait));
+  need_is = slow_need;
   fits = omega arith;
   asks = asks_one;
   starts = tt;
@@ -285,7 +291,8 @@ hasty_asks : AskCase 6 (late_senders 999) 1 1 0 0 (0 ∷ []) [] 1000 [] no_line 
 unfolding log
 hasty_asks = record {
   senders_are = late_is;
-  need_is = (refl, late_need);
+  wait_is = (refl, (byte_none (late_senders 999), late_wait));
+  need_is = late_need;
   fits = omega arith;
   asks = asks_one;
   starts = tt;
@@ -300,7 +307,8 @@ twice_asks : AskCase 6 (each 1001) 1 0 0 0 [] (short_sent 0 ∷ []) 0 [] no_line
 unfolding log
 twice_asks = record {
   senders_are = slow_is;
-  need_is = (refl, slow_need);
+  wait_is = (refl, (byte_none (each 1001), slow_wait));
+  need_is = slow_need;
   fits = omega arith;
   asks = asks_twice;
   starts = tt;
@@ -315,7 +323,8 @@ unfound_asks : AskCase 7 (each 1001) 1 1 0 0 (0 ∷ []) [] 1001 (1000 ∷ []) no
 unfolding log
 unfound_asks = record {
   senders_are = slow_is;
-  need_is = (refl, slow_need);
+  wait_is = (refl, (byte_none (each 1001), slow_wait));
+  need_is = slow_need;
   fits = omega arith;
   asks = asks_one;
   starts = tt;
@@ -330,7 +339,8 @@ down_asks : AskCase 8 (each 1001) 1 1 0 0 (0 ∷ []) [] 1001 (1000 ∷ []) faile
 unfolding log
 down_asks = record {
   senders_are = slow_is;
-  need_is = (refl, slow_need);
+  wait_is = (refl, (byte_none (each 1001), slow_wait));
+  need_is = slow_need;
   fits = omega arith;
   asks = asks_one;
   starts = needs_traffic.down.starts;
@@ -345,7 +355,8 @@ late_asks : AskCase 9 (each 1001) 1 1 0 0 (0 ∷ []) [] 1001 [] no_line no_line
 unfolding log
 late_asks = record {
   senders_are = slow_is;
-  need_is = (refl, slow_need);
+  wait_is = (refl, (byte_none (each 1001), slow_wait));
+  need_is = slow_need;
   fits = omega arith;
   asks = asks_one;
   starts = tt;

@@ -1,45 +1,60 @@
 -- The law of a queue that is never full: what its sub-VL has sent since its last quiet time, and what it holds.
-use Rattle.run_laws.proofs.Names.{ℕ, ◌≡◌, ◌+◌, ◌-◌, ◌*◌, ◌/◌, ◌<◌, ◌≤◌, List, [], ◌∷◌, ◌++◌, Bool, true, false, None, length, map, arith, refl, ap, sym, subst, ◌∙◌, inl, inr, cases_lt, length-append, append_assoc, append-nil, map-append, length-map, filter, filter-append, filter_passes, All, Contains, All-append, All-cons, All-filter, All-head, All-map, All-nil, All-push, All-weaker, all_back, all_front, all_of_map, nat_tests, sum_by, sum_by-append, sum_by_push, mul-le, div-le_self, lt-mul-div-succ, Plan, IsPlan, link_plan_at, bag_micros, room_of, LinkPlan, PortPlan, A, Sent, Accepted, AreQueued, IsAllowed, IsQueued, Entry, Lines, latest, IsLater, stream_at, has_port, users_among, released_by, is_of, cond, Poll, fragments_of, seen_of, AreTimely, pieces_of, is_on, Sender, AreSendersOf, have_periods, flows_of, arrived, messages, greatest_message, places_at, IsBusyTime, round_of, used_sub_vls, passed_lt, traffic_wait_at, Arrival, AreApart, KeepPeriods, accepted_by, is_before, messages_in, times_in, AsksAfter, NeverFull, asked_at, queued_of}
-use Rattle.run_laws.proofs.Backlog.{IsBetween, are_round, before_both, few_fragments, back_apart, few_messages, filter_none, front_apart, greatest_most, has_oldest, is_later, messages_mono, piece, queued_after, queued_most, split_at, sum_filter}
-use Rattle.run_laws.proofs.KeptPeriods.{IsAmong, IsKept, filter_swap, still_kept, weight_of}
-use Rattle.run_laws.proofs.MessageRun.{finding_steps, wide_room}
+use Rattle.run_laws.proofs.Names.{AreMates, IsGroupRun, IsKnownBacklog, NeverFullInGroup, Option, Poll, is_in, is_outside, min, unwrap_or, ℕ, ◌≡◌, ◌+◌, ◌-◌, ◌*◌, ◌/◌, ◌<◌, ◌≤◌, List, [], ◌∷◌, ◌++◌, Bool, true, false, None, Some, length, map, arith, refl, ap, sym, subst, ◌∙◌, inl, inr, cases_lt, length-append, append_assoc, append-nil, map-append, length-map, filter, filter_passes, All, Contains, All-append, All-cons, All-filter, All-head, All-map, All-nil, All-push, All-weaker, all_back, all_front, all_of_map, nat_tests, sum_by, sum_by-append, mul-le, div-le_self, lt-mul-div-succ, Plan, IsPlan, link_plan_at, bag_micros, room_of, LinkPlan, PortPlan, A, Sent, Accepted, IsAllowed, Lines, latest, stream_at, has_port, users_among, released_by, fragments_of, seen_of, AreTimely, is_on, Sender, AreSendersOf, have_periods, flows_of, arrived_before, messages, greatest_message, places_at, IsBusyTime, round_of, Arrival, AreApart, KeepPeriods, accepted_by, is_before, messages_in, times_in, AsksAfter, NeverFull, asked_at, queued_of}
+use Rattle.run_laws.proofs.Backlog.{IsBetween, are_round, back_apart, few_messages, front_apart, front_keeps, greatest_most, has_oldest, is_later, messages_mono, piece, queued_after, queued_most, split_at, sum_filter}
+use Rattle.run_laws.proofs.GroupWait.{KeepsOwn}
+use Rattle.run_laws.proofs.Groups.{sum_in, sum_in_le, sum_in_sole}
+use Rattle.run_laws.proofs.KeptPeriods.{IsAmong, IsKept, weight_of}
+use Rattle.run_laws.proofs.Mates.{round_is}
+use Rattle.run_laws.proofs.MessageRun.{wide_room}
 use Rattle.run_laws.proofs.Pieces.{fragments_count, own_pieces, pieces_in}
-use Rattle.run_laws.proofs.Quiet.{AreOwed, IsQuietAt, in_busy, last_quiet, sends_rounds, some_round}
-use Rattle.run_laws.proofs.Ran.{HasOwed, HaveRun, at_of, have_run, seen_both, some_gap, splits, timely_rise}
-use Rattle.run_laws.proofs.TrafficRun.{among_of, are_kept, count_is, none_owed, owed_most}
-use Rattle.run_laws.proofs.Used.{queued_port}
-
--- polls find no less if less is owed
-has_less : (x : ℕ) (owed less : ℕ → ℕ) → ((t : ℕ) → less t ≤ owed t) → (polls : List Poll) (sent : ℕ) → HasOwed x owed sent polls
-    → HasOwed x less sent polls
-has_less x owed less le [] sent has = tt
-has_less x owed less le (p ∷ polls) sent has =
-    (λ few. has.0 (let here = le p.at in omega arith), has_less x owed less le polls (sent + cond (is_of x p.released) 1 0) has.1)
+use Rattle.run_laws.proofs.Quiet.{IsQuietAt, last_quiet, rounds_since}
+use Rattle.run_laws.proofs.Ran.{some_gap}
+use Rattle.run_laws.proofs.TrafficRun.{alone_runs, among_of, are_after, are_kept, are_none, at_rises, count_is, first_is, gone_by, group_run, lone_run, only_own, own_in, released, sent_all, sub_keeps}
 
 -- What is known at `now` of a time at which the sub-VL had sent all that it had accepted before, with `sent` fragments
--- sent in all, and `total` of messages that it accepted before now.
-pub record IsSince (round now total sent : ℕ) (owed : ℕ → ℕ) (link : LinkPlan) (s : ℕ) (senders : List Sender) (q : ℕ) : Type 0 where
+-- sent in all.
+pub record IsSince (round now sent : ℕ) (owed : ℕ → ℕ) (link : LinkPlan) (s : ℕ) (senders : List Sender) (q : ℕ) : Type 0 where
   pub by : q ≤ now
   pub within : (busy : ℕ) → IsBusyTime round (flows_of link s senders) busy → now - q ≤ busy
   pub gone : owed q + (now - q - 1) / round ≤ sent
-  pub came : owed q + (now - q - 1) / round ≤ total
+  pub came : owed q + (now - q - 1) / round ≤ owed now
 
 -- the sub-VL at its last quiet time
-quiet_since : (round now total sent q : ℕ) (owed less gone : ℕ → ℕ) (link : LinkPlan) (s : ℕ) (senders : List Sender) → 1 ≤ round
-    → 1 ≤ now → AreOwed less link s senders (now - 1) total → IsQuietAt round (now - 1) (now - 1) total q less gone → gone (now - 1) ≤ sent
-    → less q ≡ owed q → IsSince round now total sent owed link s senders q
-quiet_since round now total sent q owed less gone link s senders turns some o quiet all same =
+quiet_since : (round now sent q : ℕ) (owed gone : ℕ → ℕ) (link : LinkPlan) (s : ℕ) (senders : List Sender) (IsBusy : ℕ → Type 0) → 1 ≤ round → 1 ≤ now
+    → ((t u : ℕ) → t ≤ u → owed t ≤ owed u) → KeepsOwn owed link s senders → IsQuietAt round (now - 1) (now - 1) q owed gone IsBusy
+    → ((t : ℕ) → gone t < owed t → IsBusy t) → gone (now - 1) ≤ sent → IsSince round now sent owed link s senders q
+quiet_since round now sent q owed gone link s senders IsBusy turns some rises keeps quiet busy all =
     let by = quiet.by in
-    let rounds = sends_rounds round (now - 1) (now - 1) total q less gone link s senders turns o quiet (omega arith) in
+    let begin = quiet.quiet in
+    let rounds = rounds_since round (now - 1) (now - 1) q owed gone IsBusy quiet (omega arith) busy in
     let order : now - 1 - q ≡ now - q - 1 = omega arith in
     let part : (now - 1 - q) / round ≡ (now - q - 1) / round = ap (λ (t : ℕ). t / round) order in
-    let sends = rounds.0 in
-    let comes = rounds.1 in
+    let last : q + (now - 1 - q) ≡ now - 1 = omega arith in
+    let whole : gone q + (now - 1 - q) / round ≤ gone (now - 1) =
+    subst (λ (t : ℕ). gone q + (now - 1 - q) / round ≤ gone t) last (rounds (now - 1 - q) (omega arith)) in
     record {
       by = omega arith;
-      within = λ busy is. (let before = in_busy round (now - 1) (now - 1) total q less gone link s senders turns o quiet (omega arith) busy is in omega arith);
+      within = λ t is. elim (cases_lt t (now - q)) [
+        | inr soon ↦ soon
+        | inl late ↦
+            let then = rounds t (omega arith) in
+            let has = quiet.busy (q + t) (let one = is.some in omega arith) (omega arith) in
+            let kept = keeps.kept_before q t is.some in
+            let below = lt-mul-div-succ t turns in
+            let le = mul-le round (t / round + 1) round (arrived_before (flows_of link s senders) t) (omega arith) (omega arith) in
+            absurd (omega (arith, is.is))
+      ];
       gone = omega arith;
-      came = omega arith;
+      came = elim (cases_lt q (now - 1)) [
+        | inl past ↦
+            let has = quiet.busy (now - 1) past (omega arith) in
+            let more = rises (now - 1) now (omega arith) in
+            omega arith
+        | inr here ↦
+            let more = rises q now (omega arith) in
+            let less = div-le_self (now - q - 1) round in
+            omega arith
+      ];
     }
 
 module _ (plan : Plan) (senders : List Sender) (accepted : Accepted) (moments : List ℕ) (lines after : Lines) (k s late start now : ℕ)
@@ -103,129 +118,11 @@ module _ (plan : Plan) (senders : List Sender) (accepted : Accepted) (moments : 
   arrivals_apart : AreApart 0 (times_in arrivals)
   arrivals_apart = front_apart 0 arrivals under (front_apart 0 (arrivals ++ under) (asked_at now own ∷ []) keeps.ordered.1)
 
-  abbrev earlier : List Arrival
-  earlier = filter (is_before now) arrivals
-
-  earlier_is : filter (is_before now) came ≡ earlier
-  earlier_is =
-      let whole = filter-append (is_before now) arrivals (under ++ asked_at now own ∷ []) in
-      let none = filter_none (is_before now) (under ++ asked_at now own ∷ []) (All-push (λ (a : Arrival). is_before now a ≡ false) under (asked_at now own)
-      (All-map (λ (a : Arrival). is_before now a ≡ false) (asked_at now) asked (λ i d lt. (grind (arith, nat_tests)))) (grind (arith, nat_tests))) in
-      ap (filter (is_before now)) came_is ∙ (whole ∙ (ap (λ (xs : List Arrival). earlier ++ xs) none ∙ append-nil earlier))
-
   abbrev owed : ℕ → ℕ
   owed = accepted_by plan k before arrivals
 
-  abbrev less : ℕ → ℕ
-  less = accepted_by plan k before earlier
-
-  abbrev total : ℕ
-  total = length (fragments_of plan k (before ++ messages_in earlier))
-
   sum_is : (list : List Arrival) → length (fragments_of plan k (before ++ messages_in list)) ≡ pieces_in room before + sum_by (weight_of room) list
   sum_is list = count_is plan k s valid wide before arrivals list
-
-  owes_less : (t : ℕ) → less t ≤ owed t
-  owes_less t =
-      let here = sum_is (filter (is_before t) earlier) in
-      let there = sum_is (filter (is_before t) arrivals) in
-      let swap = ap (sum_by (weight_of room)) (filter_swap (is_before t) (is_before now) arrivals) in
-      let part = sum_filter (weight_of room) (is_before now) (filter (is_before t) arrivals) in
-      omega arith
-
-  owes_same : (q : ℕ) → q ≤ now → less q ≡ owed q
-  owes_same q le = ap (λ (list : List Arrival). length (fragments_of plan k (before ++ messages_in list))) (before_both q now le arrivals)
-
-  -- no more is owed than was accepted
-  owes_most : (t : ℕ) → owed t ≤ length (fragments_of plan k (accepted k s))
-  owes_most t =
-      let here = sum_is (filter (is_before t) arrivals) in
-      let whole = sum_is arrivals in
-      let part = sum_filter (weight_of room) (is_before t) arrivals in
-      let all = fragments_count plan.end_system room A 0 ((before ++ messages_in arrivals) ++ later) wide in
-      let these = fragments_count plan.end_system room A 0 (before ++ messages_in arrivals) wide in
-      let both = sum_by-append (λ (m : Sent). pieces_of room (length m.bytes)) (before ++ messages_in arrivals) later in
-      let same = ap (λ (list : List Sent). length (fragments_of plan k list)) is.are in
-      omega arith
-
-  queued : AreQueued plan accepted
-  queued i t lt tlt = All-weaker (IsAllowed plan i t) (IsQueued plan i t) (λ m a. a.queued) (accepted i t) (is.allowed i t lt tlt)
-
-  user : has_port link plan.ports s ≡ true
-  user = queued_port plan k s own is.asking.queued
-
-  are_owed : 1 ≤ now → AreOwed less link s senders (now - 1) total
-  are_owed some = owed_most plan k s valid wide before earlier senders (now - 1) of periods
-      (All-filter (is_before now) Allowed arrivals arrivals_allowed)
-      (λ i d lt. (let test = filter_passes (is_before now) arrivals i d lt in grind (arith, nat_tests)))
-      (subst (λ (list : List Arrival). All (IsKept plan.ports list) senders) earlier_is
-      (All-weaker (IsKept plan.ports came) (IsKept plan.ports (filter (is_before now) came)) (still_kept plan.ports (is_before now) came) senders kept))
-
-  owed_start : owed start ≡ length (fragments_of plan k before)
-  owed_start = none_owed plan k s valid wide before arrivals start (All-map (λ (n : ℕ). start + 0 ≤ n) (λ (a : Arrival). a.at) arrivals
-      (all_front (λ (a : Arrival). start + 0 ≤ a.at) arrivals (under ++ asked_at now own ∷ []) came (sym came_is) came_from))
-
-  -- What the polls of the run have sent by now.
-  since : (round : ℕ) → round ≡ users_among link.sub_vls (has_port link plan.ports) * (bag_micros link.bag + late)
-      → IsLater (latest None (stream_at plan k lines)) start → seen_of s (stream_at plan k lines) ≡ fragments_of plan k before
-      → (run : HaveRun (bag_micros link.bag) link.sub_vls (has_port link plan.ports)
-      (λ S polls. HasOwed s owed (length (seen_of s S)) polls) moments (stream_at plan k lines) (stream_at plan k after))
-      → AreTimely (bag_micros link.bag) late (now - 1) start moments
-      → (q : ℕ) × IsSince round now (owed now) (length (seen_of s (stream_at plan k after))) owed link s senders q
-  since round rounds last quiet run timely = elim (cases_lt start now) [
-    | inr early ↦ (
-      now,
-      record {
-        by = omega arith;
-        within = λ busy of. omega arith;
-        gone = (
-            let same : start ≡ now = omega (arith, from) in
-            let none = ap owed same in
-            let sent = ap length quiet in
-            let more = seen_both s S run.added in
-            let grown = ap (λ (T : List Entry). length (seen_of s T)) run.grown in
-            let part = div-le_self (now - now - 1) round in
-            omega (arith, owed_start)
-            );
-        came = (let part = div-le_self (now - now - 1) round in omega arith);
-      },
-    )
-    | inl past ↦
-        let gap : ℕ = bag_micros link.bag in
-        let subs : ℕ = link.sub_vls in
-        let uses : ℕ → Bool = has_port link plan.ports in
-        let sent = ap length quiet in
-        let begin = owes_less start in
-        let o = are_owed (omega arith) in
-        let when : AreTimely gap late (now - 1) start (map at_of run.polls) = rw run.at timely in
-        let found = last_quiet gap subs uses s less late (now - 1) (now - 1) total link s senders is.sub user (some_gap link.bag) o (omega arith)
-        start (length (seen_of s S)) (latest None S) run.polls
-        (record {
-          later = last;
-          served = run.served;
-          users = run.users;
-          timely = when;
-          has = has_less s owed less owes_less run.polls (length (seen_of s S)) run.had;
-        })
-        (omega (arith, owed_start)) (now - 1 - start) (now - 1) (omega arith) (omega arith) (λ t far le. absurd (omega arith)) in
-        let split = splits run.polls run.added s (now - 1) start (timely_rise gap late (now - 1) start run.polls when) run.show in
-        let more = seen_both s S run.added in
-        let grown = ap (λ (T : List Entry). length (seen_of s T)) run.grown in
-        let parts = seen_both s split.soon split.more in
-        let whole = ap (λ (T : List Entry). length (seen_of s T)) split.is in
-        let seen = split.seen in
-        let turns = some_round gap subs uses s less late (now - 1) (now - 1) total link s senders is.sub user (some_gap link.bag) o (omega arith) in
-        let soon = found.2.by in
-        rw rounds (
-          found.0,
-          quiet_since (users_among subs uses * (gap + late)) now total (length (seen_of s (stream_at plan k after))) found.0 owed less
-              (λ t. length (seen_of s S) + released_by s t run.polls) link s senders turns (omega arith) o found.2 (omega arith)
-              (owes_same found.0 (omega arith)),
-        )
-  ]
-    where
-      S : List Entry
-      S = stream_at plan k lines
 
   -- What the queue holds, with the requests under way.
 
@@ -330,7 +227,7 @@ module _ (plan : Plan) (senders : List Sender) (accepted : Accepted) (moments : 
       ∙ ap (λ (n : ℕ). queued_of plan k (messages_in (back_at q)) (gone - n)) (sym front))
 
   -- by the fragments that were sent
-  by_backlog : (round gone q : ℕ) → IsSince round now (owed now) gone owed link s senders q
+  by_backlog : (round gone q : ℕ) → IsSince round now gone owed link s senders q
       → queued_of plan k (before ++ messages_in arrivals) gone + length asked + 1 ≤ places_at round (flows_of link s senders) (now - q)
   by_backlog round gone q since =
       let sent = since.gone in
@@ -344,78 +241,187 @@ module _ (plan : Plan) (senders : List Sender) (accepted : Accepted) (moments : 
       let few = few_since q (front_at q) (back_at q) (split_is q) since.by (back_from q) in
       omega arith
 
-  -- the oldest message of the queue has waited no longer than the wait by traffic
-  by_oldest : (round gone q wait : ℕ) → 1 ≤ round → IsSince round now (owed now) gone owed link s senders q
-      → ((t : ℕ) → t ≤ now - q → traffic_wait_at round (flows_of link s senders) t ≤ wait)
+  -- the oldest message of the queue has waited no longer than its wait
+  by_oldest : (gone wait : ℕ) → pieces before ≤ gone
+      → ((earlier : List Arrival) (m : Arrival) (others : List Arrival) → arrivals ≡ earlier ++ m ∷ others → m.at + wait ≤ now - 1
+      → length (fragments_of plan k (before ++ messages_in (earlier ++ m ∷ []))) ≤ gone)
       → queued_of plan k (before ++ messages_in arrivals) gone + length asked + 1 ≤ flows wait
-  by_oldest round gone q wait turns since longest =
-      let sent = since.gone in
-      let by = since.by in
-      let same = held_is q gone (omega arith) in
-      elim (cases_lt 0 (queued_of plan k (messages_in (back_at q)) (gone - owed q))) [
+  by_oldest gone wait begin sent_in =
+      let same = queued_after plan k wide before (messages_in arrivals) gone begin in
+      elim (cases_lt 0 (queued_of plan k (messages_in arrivals) (gone - pieces before))) [
         | inr none ↦
             let few = few_since now arrivals [] (sym (append-nil arrivals)) (omega arith) (All-nil _) in
             let more = messages_mono link s senders (now - now) wait (omega arith) in
             omega arith
         | inl some ↦
-            let old = has_oldest plan k wide (back_at q) (gone - owed q) some in
+            let old = has_oldest plan k wide arrivals (gone - pieces before) some in
             let m = old.oldest in
-            let apart = subst (λ (list : List Arrival). AreApart 0 (times_in list)) old.is
-            (back_apart 0 (front_at q) (back_at q) (subst (λ (list : List Arrival). AreApart 0 (times_in list)) (split_is q) arrivals_apart)) in
-            let round_it = are_round old.front m old.back apart in
-            let from_all : All (λ (a : Arrival). q ≤ a.at) (old.front ++ m ∷ old.back) = subst (All (λ (a : Arrival). q ≤ a.at)) old.is (back_from q) in
-            let by_all : All (λ (a : Arrival). a.at ≤ now) (old.front ++ m ∷ old.back) = subst (All (λ (a : Arrival). a.at ≤ now)) old.is (back_by q) in
-            let late = All-head (λ (a : Arrival). q ≤ a.at) m old.back (all_back (λ (a : Arrival). q ≤ a.at) old.front (m ∷ old.back) from_all) in
+            let round_it = are_round old.front m old.back (subst (λ (list : List Arrival). AreApart 0 (times_in list)) old.is arrivals_apart) in
+            let by_all : All (λ (a : Arrival). a.at ≤ now) (old.front ++ m ∷ old.back) = subst (All (λ (a : Arrival). a.at ≤ now)) old.is arrivals_by in
             let soon = All-head (λ (a : Arrival). a.at ≤ now) m old.back (all_back (λ (a : Arrival). a.at ≤ now) old.front (m ∷ old.back) by_all) in
-            let fragments = few_fragments plan k s valid senders came periods kept came_allowed among wide q (m.at - q) (front_at q) (old.front ++ m ∷ [])
-            (old.back ++ asking) (came_is ∙ (ap (λ (list : List Arrival). list ++ asking) (split_is q ∙ ap (λ (list : List Arrival). front_at q ++ list) old.is)
-            ∙ grind (arith, append_assoc)))
-            (old_between q old.front m (all_front (λ (a : Arrival). q ≤ a.at) old.front (m ∷ old.back) _ refl from_all) late round_it.before) in
-            let one = sum_by_push (weight_of room) old.front m in
-            let few = few_since m.at (front_at q ++ old.front) (m ∷ old.back)
-            (split_is q ∙ (ap (λ (list : List Arrival). front_at q ++ list) old.is ∙ sym (append_assoc (front_at q) old.front (m ∷ old.back))))
-            soon (All-cons (λ (a : Arrival). m.at ≤ a.at) m old.back (omega arith) round_it.after) in
-            let below = lt-mul-div-succ (now - q - 1) turns in
-            let gone_by = old.sent in
-            let rounds = mul-le round ((now - q - 1) / round + 1) round (arrived (flows_of link s senders) (m.at - q)) (omega arith) (omega arith) in
-            let waited = longest (m.at - q) (omega arith) in
-            let more = messages_mono link s senders (now - m.at) wait (omega arith) in
+            let few = few_since m.at old.front (m ∷ old.back) old.is soon (All-cons (λ (a : Arrival). m.at ≤ a.at) m old.back (omega arith) round_it.after) in
             let count = old.count in
-            omega arith
+            let not_begun = old.sent in
+            let first = first_is plan k s valid wide before arrivals old.front m in
+            let own_pieces = some_weight m in
+            elim (cases_lt (now - 1) (m.at + wait)) [
+              | inl waits ↦ (let more = messages_mono link s senders (now - m.at) wait (omega arith) in omega arith)
+              | inr over ↦ (let all = sent_in old.front m old.back old.is over in absurd (omega arith))
+            ]
       ]
     where
-      old_between : (q : ℕ) (front : List Arrival) (m : Arrival) → All (λ (a : Arrival). q ≤ a.at) front → q ≤ m.at
-          → All (λ (b : Arrival). b.at ≤ m.at) front → All (IsBetween q (m.at - q)) (front ++ m ∷ [])
-      old_between q front m from late by = All-push (IsBetween q (m.at - q)) front m
-          (λ i d lt. (let le = by i d lt in let low = from i d lt in record { from = low; by = omega arith })) (record { from = late; by = omega arith })
+      some_weight : (a : Arrival) → 1 ≤ weight_of room a
+      some_weight a = omega arith
+
+-- A run of a sub-VL alone.
+module _ (plan : Plan) (senders : List Sender) (accepted : Accepted) (moments : List ℕ) (lines after : Lines) (k s late start now : ℕ)
+    (before : ℕ → List Sent) (arrivals : ℕ → List Arrival) (later : ℕ → List Sent) (valid : IsPlan plan) (of : AreSendersOf plan senders)
+    (run : IsGroupRun plan senders accepted k s 0 start before arrivals later moments lines after) where
+  abbrev gap : ℕ
+  gap = bag_micros (link_plan_at plan.links k).bag
+
+  abbrev subs : ℕ
+  subs = (link_plan_at plan.links k).sub_vls
+
+  abbrev uses : ℕ → Bool
+  uses = has_port (link_plan_at plan.links k) plan.ports
+
+  abbrev none : AreMates plan (link_plan_at plan.links k) s senders 0
+  none = are_none plan (link_plan_at plan.links k) s senders
+
+  abbrev polls : List Poll
+  polls = (group_run plan senders accepted moments lines after k s 0 late start before arrivals later valid of none run).polls
+
+  abbrev all_at : ℕ → ℕ → ℕ
+  all_at t = accepted_by plan k (before t) (arrivals t)
+
+  abbrev sent : ℕ → ℕ
+  sent t = length (seen_of t (stream_at plan k lines))
+
+  abbrev gone : ℕ → ℕ
+  gone t = sent s + released_by s t polls
+
+  abbrev rises : (t u v : ℕ) → u ≤ v → all_at t u ≤ all_at t v
+  rises = at_rises plan senders accepted moments lines after k s 0 late start before arrivals later valid of none run
+
+  inside : is_in s 0 s ≡ true
+  inside = own_in plan senders accepted moments lines after k s 0 late start before arrivals later valid of none run
+
+  sole : (count : ℕ → ℕ) → sum_in subs (is_in s 0) count ≡ count s
+  sole count = sum_in_sole subs s (is_in s 0) count run.sub inside (only_own s)
+
+  -- the last quiet time
+  lone_quiet : 1 ≤ now → start ≤ now - 1 → AreTimely gap late (now - 1) start moments
+      → (q : ℕ) × IsQuietAt (round_of late plan (link_plan_at plan.links k) s 0) (now - 1) (now - 1) q (all_at s) gone (λ t. gone t < all_at s t)
+  lone_quiet some past timely =
+      let found = last_quiet gap subs uses (is_in s 0) all_at late (now - 1) (some_gap (link_plan_at plan.links k).bag) rises start s sent
+      (latest None (stream_at plan k lines)) polls run.sub inside
+      (are_after plan senders accepted moments lines after k s 0 late start before arrivals later valid of none run (now - 1) timely)
+      (sum_in_le subs (is_in s 0) (λ y. all_at y start) (λ y. sent y + released_by y start polls)
+      (λ y lt its. (let same = sent_all plan senders accepted moments lines after k s 0 late start before arrivals later valid of none run y lt its in omega arith)))
+      (now - 1) (omega arith) (now - 1 - start) (now - 1) (omega arith) (omega arith) (λ t far le. absurd (omega arith)) in
+      let q : ℕ = found.0 in
+      let quiet = found.2 in (
+        q,
+        subst (λ (r : ℕ). IsQuietAt r (now - 1) (now - 1) q (all_at s) gone (λ t. gone t < all_at s t)) (round_is late plan (link_plan_at plan.links k) s 0)
+            (record {
+              by = quiet.by;
+              quiet = (let begin = quiet.quiet in let one = sole (λ y. all_at y q) in let two = sole (λ y. sent y + released_by y q polls) in omega arith);
+              busy = λ t low le. (
+                  let has = quiet.busy t low le in
+                  let one = sole (λ y. all_at y t) in
+                  let two = sole (λ y. sent y + released_by y t polls) in
+                  omega arith
+                  );
+              timed = λ f end less busy enough. (
+                  let all = quiet.timed f end less (λ t low le. record { sub = s; below = run.sub; inside = inside; less = busy t low le }) enough in
+                  let one = sole (λ y. sent y + released_by y q polls) in
+                  let two = sole (λ y. sent y + released_by y end polls) in
+                  omega arith
+                  );
+            }),
+      )
+
+  lone_since : have_periods (link_plan_at plan.links k) s senders ≡ true → start ≤ now → AreTimely gap late (now - 1) start moments
+      → (q : ℕ) × IsSince (round_of late plan (link_plan_at plan.links k) s 0) now (length (seen_of s (stream_at plan k after))) (all_at s)
+      (link_plan_at plan.links k) s senders q
+  lone_since periods from timely =
+      let round : ℕ = round_of late plan (link_plan_at plan.links k) s 0 in
+      let seen = λ (t : ℕ). gone_by plan senders accepted moments lines after k s 0 late start before arrivals later valid of none run t (now - 1) timely in
+      let begin = sent_all plan senders accepted moments lines after k s 0 late start before arrivals later valid of none run s run.sub inside in
+      elim (cases_lt start now) [
+        | inr here ↦ (
+          now,
+          record {
+            by = omega arith;
+            within = λ busy is. omega arith;
+            gone = (
+                let same : start ≡ now = omega arith in
+                let owes = ap (all_at s) same in
+                let more = seen start in
+                let part = div-le_self (now - now - 1) round in
+                omega arith
+                );
+            came = (let part = div-le_self (now - now - 1) round in omega arith);
+          },
+        )
+        | inl past ↦
+            let quiet = lone_quiet (omega arith) (omega arith) timely in
+            let some = some_round in (
+              quiet.0,
+              quiet_since round now (length (seen_of s (stream_at plan k after))) quiet.0 (all_at s) gone (link_plan_at plan.links k) s senders
+                  (λ t. gone t < all_at s t) some (omega arith) (rises s)
+                  (sub_keeps plan senders accepted moments lines after k s 0 late start before arrivals later valid of none run s run.sub inside periods)
+                  quiet.1 (λ t few. few) (seen (now - 1)),
+            )
+      ]
+    where
+      some_round : 1 ≤ round_of late plan (link_plan_at plan.links k) s 0
+      some_round =
+          let some = some_gap (link_plan_at plan.links k).bag in
+          mul-le 1 1 (1 + users_among (link_plan_at plan.links k).sub_vls (is_outside (link_plan_at plan.links k) plan.ports s 0))
+          (bag_micros (link_plan_at plan.links k).bag + late) (omega arith) (omega arith)
+
+-- what is within the backlog and within the messages of a wait is within the need
+within_need : (round : ℕ) (link : LinkPlan) (s : ℕ) (senders : List Sender) (wait need at load : ℕ) (o : Option ℕ)
+    → IsKnownBacklog round (flows_of link s senders) o
+    → need ≡ min (unwrap_or o (messages (flows_of link s senders) wait)) (messages (flows_of link s senders) wait)
+    → ((busy : ℕ) → IsBusyTime round (flows_of link s senders) busy → at ≤ busy)
+    → load ≤ places_at round (flows_of link s senders) at → load ≤ messages (flows_of link s senders) wait → load ≤ need
+within_need round link s senders wait need at load None none is within first second = omega arith
+within_need round link s senders wait need at load (Some backlog) known is within first second =
+    let most = known.is_most.most at (within known.busy known.is_busy) in
+    omega arith
+
+pub never_full_in_group : NeverFullInGroup
+never_full_in_group plan senders accepted moments lines after k s mates late start now wait need before arrivals later asked own valid of periods wait_is need_is fits is run keeps timely port new size capacity load refused =
+    let link : LinkPlan = link_plan_at plan.links k in
+    let round : ℕ = round_of late plan link s 0 in
+    let gone : ℕ = length (seen_of s (stream_at plan k after)) in
+    let inside = own_in plan senders accepted moments lines after k s mates late start before arrivals later valid of wait_is.0 run in
+    let starts = from plan senders accepted moments lines after k s late start now (before s) (arrivals s) asked own (later s) valid of periods is keeps in
+    let lone = lone_run plan senders accepted k s mates start before arrivals later moments lines after run in
+    let since = lone_since plan senders accepted moments lines after k s late start now before arrivals later valid of lone periods starts timely in
+    let first = by_backlog plan senders accepted moments lines after k s late start now (before s) (arrivals s) asked own (later s) valid of periods is keeps
+    round gone since.0 since.1 in
+    let sent = ap length (run.each s run.sub inside).quiet in
+    let begun = gone_by plan senders accepted moments lines after k s mates late start before arrivals later valid of wait_is.0 run 0 (now - 1) timely in
+    let second = by_oldest plan senders accepted moments lines after k s late start now (before s) (arrivals s) asked own (later s) valid of periods is keeps
+    gone wait (let count = fragments_count plan.end_system (room_of link.lmax) A 0 (before s) (wide_room plan k valid run.link) in omega (arith, sent, begun))
+    (λ earlier m others parts over. (
+    let all = released plan senders accepted moments lines after k s mates late start before arrivals later valid of wait_is.0 run
+    wait (now - 1) earlier m others periods wait_is.1 parts over timely in
+    let by = gone_by plan senders accepted moments lines after k s mates late start before arrivals later valid of wait_is.0 run (m.at + wait) (now - 1) timely in
+    omega arith
+    )) in
+    let full = refused.queue.1 in
+    let places = within_need round link s senders wait need (now - since.0) _ need_is.backlog need_is.is_backlog need_is.less since.1.within first second in
+    absurd (omega arith)
 
 pub never_full_holds : NeverFull
-never_full_holds plan senders accepted moments lines after k s late start now need before arrivals asked own later valid of need_is fits is last quiet keeps finding stands timely port new size capacity load refused =
-    let link : LinkPlan = link_plan_at plan.links k in
-    let round : ℕ = round_of late plan link in
-    let needs = need_is.1 in
-    let user_is = user plan senders accepted moments lines after k s late start now before arrivals asked own later valid of need_is.0 is keeps in
-    let run = have_run moments plan k s _ _ _ lines after
-    (finding_steps plan accepted k s (accepted_by plan k before arrivals) valid is.link
-    (owes_most plan senders accepted moments lines after k s late start now before arrivals asked own later valid of need_is.0 is keeps)
-    (queued plan senders accepted moments lines after k s late start now before arrivals asked own later valid of need_is.0 is keeps)) finding stands in
-    let found = since plan senders accepted moments lines after k s late start now before arrivals asked own later valid of need_is.0 is keeps
-    round refl last quiet run timely in
-    let gone : ℕ = length (seen_of s (stream_at plan k after)) in
-    let first = by_backlog plan senders accepted moments lines after k s late start now before arrivals asked own later valid of need_is.0 is keeps
-    round gone found.0 found.1 in
-    let backlog = needs.is_backlog.most (now - found.0) (found.1.within needs.is_backlog.busy needs.is_backlog.is_busy) in
-    let busy = found.1.within needs.is_wait.busy needs.is_wait.is_busy in
-    let second = by_oldest plan senders accepted moments lines after k s late start now before arrivals asked own later valid of need_is.0 is keeps
-    round gone found.0 needs.wait (some_turns link plan.ports late s is.sub user_is) found.1
-    (λ t le. needs.is_wait.most t (omega arith)) in
-    let least = needs.less in
-    let full = refused.queue.1 in
-    absurd (omega arith)
-  where
-    some_turns : (link : LinkPlan) (ports : List PortPlan) (late s : ℕ) → s < link.sub_vls → has_port link ports s ≡ true
-        → 1 ≤ used_sub_vls link ports * (bag_micros link.bag + late)
-    some_turns link ports late s inside is =
-        let fewer = passed_lt link.sub_vls (has_port link ports) s s inside is in
-        let some = some_gap link.bag in
-        mul-le 1 1 (used_sub_vls link ports) (bag_micros link.bag + late) (omega arith) (omega arith)
+never_full_holds plan senders accepted moments lines after k s late start now wait need before arrivals asked own later valid of wait_is need_is fits is last quiet keeps finding stands timely =
+    never_full_in_group plan senders accepted moments lines after k s 0 late start now wait need (λ t. before) (λ t. arrivals) (λ t. later) asked own valid of
+    wait_is.0 wait_is.1 need_is fits is
+    (alone_runs plan senders accepted moments lines after k s start before arrivals later is.link is.sub is.allowed is.are last quiet
+    (front_keeps senders start arrivals (map (asked_at now) asked ++ asked_at now own ∷ []) (subst (KeepPeriods senders start) (append_assoc arrivals (map (asked_at now) asked) (asked_at now own ∷ [])) keeps))
+    finding stands) keeps timely

@@ -1,6 +1,6 @@
 -- How many fragments, and how many messages, the ports of a sub-VL can have accepted in a time if they keep their periods
 -- with their jitter.
-use Rattle.run_laws.proofs.Names.{ℕ, ◌≡◌, ◌⊎◌, ◌+◌, ◌-◌, ◌*◌, ◌≤◌, List, [], ◌∷◌, Bool, true, false, cond, ◌&&◌, ◌||◌, nat_le, nat_lt, nat_tests, arith, refl, sym, ap, ◌∙◌, subst, get_or, Option, Some, None, inl, inr, map, length, length-map, mul-le, All, All-cons, All-head, All-nil, All-tail, All-weaker, eq-eqb, Contains, Plan, IsPlan, link_plan_at, LinkPlan, PortPlan, room_of, IsAllowed, pieces_of, port_pieces, ◌/◌, filter, not, unwrap_or, IfSome, is_some, sum_by, get_or_default, All-filter, All-map, filter_passes, sum_by-filter_both, sum_by-cons, sum_by-le, port_plan_at, PortId, is_on, Sender, senders_on, have_periods, has_period, all_of_map, Arrival, AreApart, AreDue, KeepPeriod, times_in, is_from, is_before}
+use Rattle.run_laws.proofs.Names.{ℕ, ◌≡◌, ◌⊎◌, ◌+◌, ◌-◌, ◌*◌, ◌≤◌, List, [], ◌∷◌, ◌++◌, Bool, true, false, cond, ◌&&◌, ◌||◌, nat_le, nat_lt, nat_tests, arith, refl, sym, ap, ◌∙◌, subst, get_or, Option, Some, None, inl, inr, map, length, length-map, mul-le, All, All-cons, All-head, All-nil, All-tail, All-weaker, eq-eqb, Contains, Plan, IsPlan, link_plan_at, LinkPlan, PortPlan, room_of, IsAllowed, pieces_of, port_pieces, ◌/◌, filter, filter-append, not, unwrap_or, IfSome, is_some, sum_by, get_or_default, All-filter, All-map, filter_passes, sum_by-filter_both, sum_by-cons, sum_by-le, port_plan_at, PortId, is_on, Sender, senders_on, have_periods, has_period, all_of_map, Arrival, AreApart, AreDue, KeepPeriod, times_in, is_from, is_before}
 use Rattle.run_laws.proofs.Pieces.{own_pieces}
 
 -- the fragments of a message on a link whose frames have this room
@@ -119,6 +119,26 @@ thinned p j test (a ∷ arrivals) (d ∷ dues) due apart = by_test (test a) (thi
           (rest.among low (All-tail (λ (n : ℕ). low ≤ n) d dues all));
     }
     by_test false rest = record { keep = rest.keep; among = λ low all. rest.among low (All-tail (λ (n : ℕ). low ≤ n) d dues all) }
+
+-- and so do the first of them
+fronted : (p j : ℕ) (xs ys : List Arrival) (dues : List ℕ) → AreDue j (times_in (xs ++ ys)) dues → AreApart p dues → IsThinned p j xs dues
+fronted p j [] ys dues due apart = record { keep = record { dues = []; due = tt; apart = tt }; among = λ low all. All-nil _ }
+fronted p j (a ∷ xs) ys [] due apart = absurd due
+fronted p j (a ∷ xs) ys (d ∷ dues) due apart =
+    let rest = fronted p j xs ys dues due.2 apart.1 in
+    record {
+      keep = record { dues = d ∷ rest.keep.dues; due = (due.0, due.1, rest.keep.due); apart = (rest.among (d + p) apart.0, rest.keep.apart) };
+      among = λ low all. All-cons (λ (n : ℕ). low ≤ n) d rest.keep.dues (All-head (λ (n : ℕ). low ≤ n) d dues all)
+          (rest.among low (All-tail (λ (n : ℕ). low ≤ n) d dues all));
+    }
+
+pub front_kept : (sender : Sender) (xs ys : List Arrival) (o : Option ℕ)
+    → IfSome o (λ p. KeepPeriod p sender.jitter (times_in (filter (is_from sender.port) (xs ++ ys))))
+    → IfSome o (λ p. KeepPeriod p sender.jitter (times_in (filter (is_from sender.port) xs)))
+front_kept sender xs ys None keeps = keeps
+front_kept sender xs ys (Some p) keeps =
+    let parts = filter-append (is_from sender.port) xs ys in
+    (fronted p sender.jitter (filter (is_from sender.port) xs) (filter (is_from sender.port) ys) keeps.dues (rw parts at keeps.due) keeps.apart).keep
 
 -- the port is that of one of these senders
 abbrev pub IsAmong : PortPlan → List Sender → Type 0

@@ -5,6 +5,8 @@ pub mod Ran
 pub mod NextRun
 pub mod KeepReady
 pub mod WorkedRuns
+pub mod Groups
+pub mod GroupPolls
 pub mod Timely
 pub mod Pieces
 pub mod MessageRun
@@ -12,8 +14,11 @@ pub mod EmitterRuns
 pub mod NeededRuns
 pub mod Quiet
 pub mod KeptPeriods
+pub mod GroupWait
+pub mod Mates
+pub mod Backlog
 pub mod TrafficRun
 pub mod TrafficRows
-pub mod Backlog
+pub mod GroupRows
 pub mod FullRun
 pub mod FullRows

@@ -1,40 +1,78 @@
 -- The law of a message in a run of polls.
-use Rattle.run_laws.proofs.Names.{AreReleasedBy, all_back, Poll, released_by, lt-ltb, subst, IsAccepted, AreQueued, IsQueued, All-weaker, has_port, true, used_sub_vls, ℕ, ◌≡◌, ◌⊎◌, ◌+◌, ◌-◌, ◌*◌, ◌<◌, ◌≤◌, List, [], ◌∷◌, ◌++◌, Bool, nat_lt, length, map, take, drop, arith, refl, ap, ◌∙◌, sym, None, inl, inr, ⊎_elim, All, suc-mul, mul-le, cases_lt, le-ltb, append_assoc, length-append, take-append-drop, length-drop, All-head, All-drop, Plan, IsPlan, link_plan_at, bag_micros, link_place, room_of, LinkPlan, A, Sent, fragments_from, Entry, Lines, latest, IsPrefixOf, Accepted, IsAllowed, IsDrained, stream_at, cons_parts, all_front, pieces_of, port_pieces, most_pieces, queued_before, message_wait, worst_wait, AreTimely, fragments_of, seen_of, HasPlace, FindsIt, MessageInRun, own_link, sum_by-le, sum_by-take-drop, sum_by_push}
+use Rattle.run_laws.proofs.Names.{AreReleasedBy, all_back, Poll, released_by, lt-ltb, subst, IsAccepted, AreQueued, IsQueued, All-weaker, has_port, true, used_sub_vls, ℕ, ◌≡◌, ◌⊎◌, ◌+◌, ◌-◌, ◌*◌, ◌<◌, ◌≤◌, List, [], ◌∷◌, ◌++◌, Bool, nat_lt, length, map, take, drop, arith, refl, ap, ◌∙◌, sym, None, inl, inr, ⊎_elim, All, suc-mul, mul-le, cases_lt, le-ltb, append_assoc, length-append, take-append-drop, length-drop, All-head, All-drop, Plan, IsPlan, link_plan_at, bag_micros, link_place, room_of, LinkPlan, A, Sent, fragments_from, Entry, Lines, latest, IsPrefixOf, Accepted, IsAllowed, IsDrained, stream_at, cons_parts, all_front, pieces_of, port_pieces, most_pieces, queued_before, message_wait, worst_wait, AreTimely, fragments_of, seen_of, HasPlace, FindsIt, FindsGroup, IsGroupPoll, ArePolls, Passes, held_at, link_at, ◌&&◌, and_from, eq-eqb, eqb-true, false, false≢true, MessageInRun, own_link, sum_by-le, sum_by-take-drop, sum_by_push}
 use Rattle.run_laws.proofs.PollStep.{StandsAt, StepsAt, emitter_step, drain_step, emitter_endures, drain_endures}
-use Rattle.run_laws.proofs.Ran.{HasOwed, Rise, Show, has_at, some_gap, at_of, seen_both, seen_append, adds_seen, timely_rise, splits, AreSteps, have_run}
+use Rattle.run_laws.proofs.Ran.{HasOwed, SendsOwed, Rise, Show, has_at, some_gap, at_of, seen_both, seen_append, adds_seen, timely_rise, splits, AreSteps, have_run}
 use Rattle.run_laws.proofs.Used.{queued_port}
 use Rattle.run_laws.proofs.Timely.{timely_released}
+use Rattle.run_laws.proofs.Groups.{alone}
 use Rattle.run_laws.proofs.Pieces.{own_pieces, fragments_count, fragments_both, port_most}
 
--- fewer than `many` fragments of a sub-VL were sent
-abbrev waiting : ℕ → ℕ → List Entry → Bool
-waiting x many S = nat_lt (length (seen_of x S)) many
+-- fewer fragments of a sub-VL of the group were sent than are owed
+abbrev waiting : (ℕ → Bool) → (ℕ → ℕ) → List Entry → ℕ → Bool
+waiting group owed S x = group x && nat_lt (length (seen_of x S)) (owed x)
 
-find_step : (now : ℕ) (plan : Plan) (accepted : Accepted) (k x many : ℕ) (lines mid : Lines) → IsPlan plan → k < length plan.links
-    → many ≤ length (fragments_of plan k (accepted k x)) → AreQueued plan accepted
-    → FindsIt plan k x many now lines mid ⊎ IsDrained now plan accepted lines mid → StandsAt plan k mid
-    → StepsAt now plan k x (waiting x many (stream_at plan k lines)) lines mid
-find_step now plan accepted k x many lines mid valid inside most queued (inl finds) stands =
-    emitter_step now plan k x (waiting x many (stream_at plan k lines)) lines mid valid inside finds.poll
-    (grind arith)
-    stands
-find_step now plan accepted k x many lines mid valid inside most queued (inr drains) stands = grind (arith, drain_step, valid, queued, le-ltb)
+find_step : (now : ℕ) (plan : Plan) (accepted : Accepted) (k : ℕ) (group rest : ℕ → Bool) (owed : ℕ → ℕ → ℕ) (lines mid : Lines) → IsPlan plan
+    → k < length plan.links → ((x : ℕ) → x < (link_plan_at plan.links k).sub_vls → group x ≡ true → owed x now ≤ length (fragments_of plan k (accepted k x))) → AreQueued plan accepted
+    → IsGroupPoll plan accepted k group rest owed now lines mid → StandsAt plan k mid
+    → StepsAt now plan k (waiting group (λ x. owed x now) (stream_at plan k lines)) lines mid
+find_step now plan accepted k group rest owed lines mid valid inside most queued p stands = by_poll p.poll
+  where
+    W : ℕ → Bool
+    W = waiting group (λ x. owed x now) (stream_at plan k lines)
 
--- the polls of a run, which find this many fragments
-pub finding_steps : (plan : Plan) (accepted : Accepted) (k x : ℕ) (owed : ℕ → ℕ) → IsPlan plan → k < length plan.links
-    → ((now : ℕ) → owed now ≤ length (fragments_of plan k (accepted k x))) → AreQueued plan accepted
-    → AreSteps plan k x (λ now lines after. FindsIt plan k x (owed now) now lines after ⊎ IsDrained now plan accepted lines after)
-    (λ S polls. HasOwed x owed (length (seen_of x S)) polls) (λ now S. waiting x (owed now) S)
-finding_steps plan accepted k x owed valid inside most queued = record {
+    by_poll : FindsGroup plan k group owed now lines mid ⊎ IsDrained now plan accepted lines mid → StepsAt now plan k W lines mid
+    by_poll (inl finds) = emitter_step now plan k W lines mid valid inside finds.poll (grind arith) stands
+    by_poll (inr drains) = drain_step now plan accepted k W lines mid valid inside queued drains (grind (arith, le-ltb)) stands
+
+-- what is known of a group at polls: what they find, and that no fragment of the rest is sent before it is owed
+pub record AreFound (subs : ℕ) (group rest : ℕ → Bool) (owed : ℕ → ℕ → ℕ) (S : List Entry) (polls : List Poll) : Type 0 where
+  pub has : (x : ℕ) → group x ≡ true → HasOwed x (owed x) (length (seen_of x S)) polls
+  pub sends : (x : ℕ) → x < subs → rest x ≡ true → SendsOwed x (owed x) (length (seen_of x S)) polls
+
+-- the polls of a run
+pub finding_steps : (plan : Plan) (accepted : Accepted) (k : ℕ) (group rest : ℕ → Bool) (owed : ℕ → ℕ → ℕ) → IsPlan plan → k < length plan.links
+    → ((now x : ℕ) → x < (link_plan_at plan.links k).sub_vls → group x ≡ true → owed x now ≤ length (fragments_of plan k (accepted k x))) → AreQueued plan accepted
+    → AreSteps plan k (IsGroupPoll plan accepted k group rest owed) (AreFound (link_plan_at plan.links k).sub_vls group rest owed)
+    (λ now S. waiting group (λ x. owed x now) S)
+finding_steps plan accepted k group rest owed valid inside most queued = record {
   stays_down = λ now lines after p. ⊎_elim (λ finds. emitter_endures now plan lines after finds.poll)
-      (grind (arith, drain_endures)) p;
-  step = λ now lines after p stands. find_step now plan accepted k x (owed now) lines after valid inside (most now) queued p stands;
-  none = λ S. tt;
-  more = λ p polls S M adds waits had. (
-    λ few. waits (lt-ltb (length (seen_of x S)) (owed p.at) few),
-    subst (λ (n : ℕ). HasOwed x owed n polls) (adds_seen p.at x p.released S M adds) had,
-  );
+      (grind (arith, drain_endures)) p.poll;
+  step = λ now lines after p stands. find_step now plan accepted k group rest owed lines after valid inside (most now) queued p stands;
+  none = λ S. record { has = λ x its. tt; sends = λ x lt its. tt };
+  more = λ p polls lines mid of adds waits had. record {
+    has = λ x its. (
+      λ few. waits x (and_from (group x) _ its (lt-ltb (length (seen_of x (stream_at plan k lines))) (owed x p.at) few)),
+      subst (λ (n : ℕ). HasOwed x (owed x) n polls) (adds_seen p.at x p.released _ _ adds) (had.has x its),
+    );
+    sends = λ x lt its. (
+        let count = adds_seen p.at x p.released _ _ adds in
+        let soon = of.sooner x lt its in
+        (omega arith, subst (λ (n : ℕ). SendsOwed x (owed x) n polls) count (had.sends x lt its))
+        );
+  };
 }
+
+-- polls of one kind are polls of another
+pub polls_are : {P Q : ℕ → Lines → Lines → Type 0} → ((now : ℕ) (lines after : Lines) → P now lines after → Q now lines after)
+    → (moments : List ℕ) (lines after : Lines) → ArePolls P moments lines after → ArePolls Q moments lines after
+polls_are each [] lines after is = is
+polls_are each (now ∷ moments) lines after is = (is.0, each now lines is.0 is.1, polls_are each moments is.0 after is.2)
+
+-- a poll that finds a sub-VL is one of a group of it alone
+pub alone_found : (plan : Plan) (accepted : Accepted) (k s : ℕ) (group rest : ℕ → Bool) (owed : ℕ → ℕ → ℕ) (now : ℕ) (lines after : Lines)
+    → ((x : ℕ) → group x ≡ true → x ≡ s) → ((x : ℕ) → rest x ≡ false)
+    → FindsIt plan k s (owed s now) now lines after ⊎ IsDrained now plan accepted lines after
+    → IsGroupPoll plan accepted k group rest owed now lines after
+alone_found plan accepted k s group rest owed now lines after only none p = record { poll = by_poll p; sooner = λ x lt its. absurd (false≢true (sym (none x) ∙ its)) }
+  where
+    by_poll : FindsIt plan k s (owed s now) now lines after ⊎ IsDrained now plan accepted lines after
+        → FindsGroup plan k group owed now lines after ⊎ IsDrained now plan accepted lines after
+    by_poll (inl finds) = inl (record {
+      poll = finds.poll;
+      finds = λ x its. subst (λ (y : ℕ). Passes (held_at (link_at finds.poll.old.links k).subs y) (held_at (link_at finds.poll.new.links k).subs y)
+          → owed y now ≤ length (seen_of y (stream_at plan k lines))) (sym (only x its)) finds.finds;
+    })
+    by_poll (inr drains) = inr drains
 
 front_of : {X : Type 0} (xs ys us vs : List X) → xs ++ us ≡ ys ++ vs → length xs ≤ length ys → IsPrefixOf xs ys
 front_of [] ys us vs is le = (ys, refl)
@@ -154,9 +192,13 @@ message_in_run_holds plan accepted moments lines after k s late start earlier se
     let gone = missing plan k s valid is.link earlier sent S few known.own place in
     let wait = own_wait plan k s late sent (grind (arith, own_link)) known.own.queued.its in
     let used : ℕ = used_sub_vls link plan.ports in
-    let run = have_run moments plan k s _ _ _ lines after
-    (finding_steps plan accepted k s (λ now. many) valid is.link (λ now. known.most) known.queued) finding stands in
-    let had = has_at s (many - length (seen_of s S)) many (length (seen_of s S)) run.polls (omega arith) run.had in
+    let owed : ℕ → ℕ → ℕ = λ x now. many in
+    let none : ℕ → Bool = λ x. false in
+    let run = have_run moments plan k (IsGroupPoll plan accepted k (alone s) none owed) (AreFound (link_plan_at plan.links k).sub_vls (alone s) none owed) _ lines after
+    (finding_steps plan accepted k (alone s) none owed valid is.link
+    (λ now x lt its. subst (λ (y : ℕ). many ≤ length (fragments_of plan k (accepted k y))) (sym (eqb-true x s its)) known.most) known.queued)
+    (polls_are (λ now lines after p. alone_found plan accepted k s (alone s) none owed now lines after (λ x its. eqb-true x s its) (λ x. refl) p) moments lines after finding) stands in
+    let had = has_at s (many - length (seen_of s S)) many (length (seen_of s S)) run.polls (omega arith) (run.had.has s (eq-eqb s s refl)) in
     let rounds = mul-le used (many - length (seen_of s S)) used
     (queued_before link (most_pieces link s plan.ports) + port_pieces link sent.port) (omega arith) gone in
     let long = mul-le (used * (many - length (seen_of s S))) (bag_micros link.bag + late)

@@ -56,18 +56,20 @@ abbrev HasOne : ℕ → List Entry → List Poll → Type 0
 HasOne x S polls = (many : ℕ) → AwaitsOne x many S → HasAtPolls x many polls
 
 polls_step : (plan : Plan) (k x : ℕ) → IsPlan plan → k < length plan.links
-    → AreSteps plan k x (λ now lines after. EmitterPolls plan now lines after ⊎ DrainPolls plan now lines after) (HasOne x)
-    (λ now S. begun_by none_begun S x)
+    → AreSteps plan k (λ now lines after. EmitterPolls plan now lines after ⊎ DrainPolls plan now lines after) (HasOne x)
+    (λ now S. begun_by none_begun S)
 polls_step plan k x valid inside = record {
   stays_down = λ now lines after p. ⊎_elim (λ emitter. emitter_endures now plan lines after emitter)
       (grind (arith, drain_endures)) p;
   step = λ now lines after p stands. ⊎_elim
-      (λ emitter. emitter_step now plan k x _ lines after valid inside emitter (emitter_lacks now plan k x lines after inside emitter) stands)
+      (λ emitter. emitter_step now plan k _ lines after valid inside emitter (emitter_lacks now plan k lines after inside emitter) stands)
       (grind (arith, drain_step, not_begun))
       p;
   none = λ S many awaits. tt;
-  more = λ p polls S M adds waits had many awaits.
-      (λ some. waits (awaits.1 some), had (left x many p.released) (still_awaits p.at x many p.released S M awaits adds));
+  more = λ p polls lines mid of adds waits had many awaits. (
+    λ some. waits x (awaits.1 some),
+    had (left x many p.released) (still_awaits p.at x many p.released (stream_at plan k lines) (stream_at plan k mid) awaits adds),
+  );
 }
 
 next_by : (T earlier soon more : List Entry) (first : Entry) (bound : ℕ) → more_in first.frame ≡ true
@@ -96,7 +98,7 @@ next_in_run_holds plan moments lines after k late earlier first valid inside end
     let bound : ℕ = first.at + next_wait late plan k in
     let below = has_port_below plan k x valid inside has in
     let begun : begun_by none_begun (stream_at plan k lines) (sub_in first.frame) ≡ true = grind (arith, begun_push, eq-eqb) in
-    let run = have_run moments plan k x _ (HasOne x) _ lines after (polls_step plan k x valid inside) runs stands in
+    let run = have_run moments plan k _ (HasOne x) _ lines after (polls_step plan k x valid inside) runs stands in
     let last : latest None (stream_at plan k lines) ≡ Some (stamp_of first) = grind (arith, latest_push) in
     let when : AreTimely (gap_at plan k) late bound first.at (map at_of run.polls) = rw run.at (apart_timely (gap_at plan k) late bound first.at
     moments (some_gap (link_plan_at plan.links k).bag) (come_later late first.at moments come) reach) in

@@ -86,6 +86,12 @@ abbrev pub HasOwed : ℕ → (ℕ → ℕ) → ℕ → List Poll → Type 0
 HasOwed x owed sent [] = Unit {0}
 HasOwed x owed sent (p ∷ polls) = (sent < owed p.at → p.has x ≡ true) × HasOwed x owed (sent + cond (is_of x p.released) 1 0) polls
 
+-- no more of its fragments are sent by each of these polls than are owed just after its time
+abbrev pub SendsOwed : ℕ → (ℕ → ℕ) → ℕ → List Poll → Type 0
+SendsOwed x owed sent [] = Unit {0}
+SendsOwed x owed sent (p ∷ polls) = (sent + cond (is_of x p.released) 1 0 ≤ owed (p.at + 1))
+    × SendsOwed x owed (sent + cond (is_of x p.released) 1 0) polls
+
 -- at as many polls as are left of the same number at all times
 pub has_at : (x f total sent : ℕ) (polls : List Poll) → f ≤ total - sent → HasOwed x (λ t. total) sent polls → HasAtPolls x f polls
 has_at x f total sent [] few has = tt
@@ -105,10 +111,10 @@ pub record HaveRun (gap subs : ℕ) (uses : ℕ → Bool) (Had : List Entry → 
   pub show : Show polls added
 
 -- one poll before others
-run_more : (now gap subs : ℕ) (uses : ℕ → Bool) (x : ℕ) (b : Bool) (Had : List Entry → List Poll → Type 0) (moments : List ℕ) (S M T : List Entry)
-    (step : IsStep now gap subs uses x b S M) (run : HaveRun gap subs uses Had moments M T)
+run_more : (now gap subs : ℕ) (uses waiting : ℕ → Bool) (Had : List Entry → List Poll → Type 0) (moments : List ℕ) (S M T : List Entry)
+    (step : IsStep now gap subs uses waiting S M) (run : HaveRun gap subs uses Had moments M T)
     → Had S (record { at = now; has = step.has; released = step.released } ∷ run.polls) → HaveRun gap subs uses Had (now ∷ moments) S T
-run_more now gap subs uses x b Had moments S M T step run had = by_release step.released step.user step.served step.adds had
+run_more now gap subs uses waiting Had moments S M T step run had = by_release step.released step.user step.served step.adds had
   where
     by_release : (o : Option ℕ) → IsOfUser uses o → IsServed gap subs (latest None S) (record { at = now; has = step.has; released = o }) o
         → Adds now o S M → Had S (record { at = now; has = step.has; released = o } ∷ run.polls) → HaveRun gap subs uses Had (now ∷ moments) S T
@@ -136,15 +142,17 @@ run_more now gap subs uses x b Had moments S M T step run had = by_release step.
         }
 
 -- Polls of one kind step on the link at a place: by this test of their time and its stream a fragment of a sub-VL waits.
--- From that follows what is known of them.
-pub record AreSteps (plan : Plan) (k x : ℕ) (Polls : ℕ → Lines → Lines → Type 0) (Had : List Entry → List Poll → Type 0)
-    (test : ℕ → List Entry → Bool) : Type 0 where
+-- From that, and from what is known of each poll, follows what is known of them all.
+pub record AreSteps (plan : Plan) (k : ℕ) (Polls : ℕ → Lines → Lines → Type 0) (Had : List Entry → List Poll → Type 0)
+    (test : ℕ → List Entry → ℕ → Bool) : Type 0 where
   pub stays_down : (now : ℕ) (lines after : Lines) → Polls now lines after → BothEndure lines after
   pub step : (now : ℕ) (lines after : Lines) → Polls now lines after → StandsAt plan k after
-      → StepsAt now plan k x (test now (stream_at plan k lines)) lines after
+      → StepsAt now plan k (test now (stream_at plan k lines)) lines after
   pub none : (S : List Entry) → Had S []
-  pub more : (p : Poll) (polls : List Poll) (S M : List Entry) → Adds p.at p.released S M → (test p.at S ≡ true → p.has x ≡ true)
-      → Had M polls → Had S (p ∷ polls)
+  pub more : (p : Poll) (polls : List Poll) (lines mid : Lines) → Polls p.at lines mid
+      → Adds p.at p.released (stream_at plan k lines) (stream_at plan k mid)
+      → ((s : ℕ) → test p.at (stream_at plan k lines) s ≡ true → p.has s ≡ true)
+      → Had (stream_at plan k mid) polls → Had (stream_at plan k lines) (p ∷ polls)
 
 -- they never bring a network up
 polls_endure : (Polls : ℕ → Lines → Lines → Type 0) (moments : List ℕ) (lines after : Lines)
@@ -154,11 +162,11 @@ polls_endure Polls [] lines after each r = grind arith
 polls_endure Polls (now ∷ moments) lines after each r = grind (arith, polls_endure Polls moments r.0 after each r.2)
 
 -- the run of polls
-pub have_run : (moments : List ℕ) (plan : Plan) (k x : ℕ) (Polls : ℕ → Lines → Lines → Type 0) (Had : List Entry → List Poll → Type 0)
-    (test : ℕ → List Entry → Bool) (lines after : Lines) → AreSteps plan k x Polls Had test
+pub have_run : (moments : List ℕ) (plan : Plan) (k : ℕ) (Polls : ℕ → Lines → Lines → Type 0) (Had : List Entry → List Poll → Type 0)
+    (test : ℕ → List Entry → ℕ → Bool) (lines after : Lines) → AreSteps plan k Polls Had test
     → ArePolls Polls moments lines after → StandsAt plan k after
     → HaveRun (gap_at plan k) (subs_at plan k) (uses_at plan k) Had moments (stream_at plan k lines) (stream_at plan k after)
-have_run [] plan k x Polls Had test lines after each r stands = record {
+have_run [] plan k Polls Had test lines after each r stands = record {
   polls = [];
   at = refl;
   served = tt;
@@ -168,14 +176,13 @@ have_run [] plan k x Polls Had test lines after each r stands = record {
   grown = grind (arith, append-nil);
   show = refl;
 }
-have_run (now ∷ moments) plan k x Polls Had test lines after each r stands =
+have_run (now ∷ moments) plan k Polls Had test lines after each r stands =
     let stood : StandsAt plan k r.0 = grind (arith, stood_before, polls_endure) in
-    let step : StepsAt now plan k x (test now (stream_at plan k lines)) lines r.0 = each.step now lines r.0 r.1 stood in
-    let run = have_run moments plan k x Polls Had test r.0 after each r.2 stands in
-    run_more now (gap_at plan k) (subs_at plan k) (uses_at plan k) x (test now (stream_at plan k lines)) Had moments (stream_at plan k lines)
+    let step : StepsAt now plan k (test now (stream_at plan k lines)) lines r.0 = each.step now lines r.0 r.1 stood in
+    let run = have_run moments plan k Polls Had test r.0 after each r.2 stands in
+    run_more now (gap_at plan k) (subs_at plan k) (uses_at plan k) (test now (stream_at plan k lines)) Had moments (stream_at plan k lines)
     (stream_at plan k r.0) (stream_at plan k after) step run
-    (each.more (record { at = now; has = step.has; released = step.released }) run.polls (stream_at plan k lines) (stream_at plan k r.0)
-    step.adds step.waits run.had)
+    (each.more (record { at = now; has = step.has; released = step.released }) run.polls lines r.0 r.1 step.adds step.waits run.had)
 
 pub some_gap : (bag : Bag) → 1 ≤ 1000 * bag_ms bag
 some_gap bag = grind arith

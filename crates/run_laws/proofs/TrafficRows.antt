@@ -1,20 +1,22 @@
 -- The worked runs of the law of a message whose sub-VL's ports keep periods, by computation.
-use Rattle.run_laws.proofs.Names.{All-cons, All-nil, All, AreDue, KeepPeriod, IsGoodPeriod, IfSome, Some, None, Sender, Arrival, filter, is_from, times_in, ◌<◌, ◌+◌, Drains, short_frame, entry, ◌≤◌, AreFindingAll, accepted_by, accepted_at, sender_of, short_port, three_senders, third_arrival, MeetsWithJitter, SecondReleased, late_senders, both_line, ℕ, zero, suc, ◌≡◌, ◌≢◌, ◌∙◌, sym, List, [], ◌∷◌, ◌++◌, length, refl, ap, arith, inl, inr, A, blanked, cutting, fragments_at, addresses, header_front, internet_header, link_header, udp_header, datagram, unnumbered, log, IsPrefixOf, PortPlan, Passes, Released, below_one, cons_parts, held_at, stream_at, FindsIt, fragments_of, seen_of, port_plan_at, AreSendersOf, IsWaitByTraffic, IsWaitOf, ReceiverView, after_take, GivesFrame, IsSameSub, gave_same, moves_of, same_sub_here, same_sub_on, AreReleasedBy, AreApart, KeepPeriods, NeedsTraffic, TakesItsWait, byte_arrivals, byte_sender, byte_senders, other_sent, other_senders, byte_line, byte_plan, bytes_accepted, no_line, other_frame, short_sent, tight_link, fresh, three_plan, line_after}
+use Rattle.run_laws.proofs.Names.{All-cons, All-nil, All, AreDue, KeepPeriod, IsGoodPeriod, IfSome, Some, None, Sender, Arrival, filter, is_from, times_in, ◌<◌, ◌+◌, Drains, short_frame, entry, ◌≤◌, AreFindingAll, accepted_by, accepted_at, sender_of, short_port, three_senders, third_arrival, MeetsWithJitter, SecondReleased, late_senders, both_line, ℕ, zero, suc, ◌≡◌, ◌≢◌, ◌∙◌, sym, List, [], ◌∷◌, ◌++◌, length, refl, ap, arith, inl, inr, A, blanked, cutting, fragments_at, addresses, header_front, internet_header, link_header, udp_header, datagram, unnumbered, log, IsPrefixOf, PortPlan, Passes, Released, below_one, cons_parts, held_at, stream_at, FindsIt, fragments_of, seen_of, port_plan_at, AreSendersOf, AreMates, IsLoneWait, IsWaitInGroup, link_plan_at, ◌*◌, ◌/◌, ReceiverView, after_take, GivesFrame, IsSameSub, gave_same, moves_of, same_sub_here, same_sub_on, AreReleasedBy, AreApart, KeepPeriods, NeedsTraffic, TakesItsWait, byte_arrivals, byte_sender, byte_senders, other_sent, other_senders, byte_line, byte_plan, bytes_accepted, no_line, other_frame, short_sent, tight_link, fresh, three_plan, line_after}
 use Rattle.afdx_plan.specs.Demo.{demo_port}
 use Rattle.afdx_frame.specs.Checksum.{checksum}
 use Rattle.run_laws.proofs.EmitterRuns.{finding, polls_by, waits_its_turn}
 use Rattle.run_laws.proofs.NeededRuns.{begins, held, in_time, misses_late, misses_second, needs_its_premises, one_is, other_bytes, sends}
 use Rattle.run_laws.proofs.WorkedRuns.{not_released, releases}
-use Rattle.run_laws.proofs.TrafficRun.{traffic_in_run_holds}
+use Rattle.run_laws.proofs.TrafficRun.{are_none, traffic_in_run_holds}
 use Rattle.run_laws.proofs.Ran.{seen_append}
 
 -- one fragment each 9,000 microseconds, with a round of 9,000
-three_wait : IsWaitByTraffic 9000 (record { fragments = 1; period = 9000; jitter = 0 } ∷ []) 9000
+three_wait : IsWaitInGroup 9000 (record { fragments = 1; period = 9000; jitter = 0 } ∷ []) [] 9000
 three_wait = record {
   busy = 9000;
   is_busy = record { some = omega arith; is = refl; least = λ t some is. grind arith };
-  met = (0, omega arith, refl);
-  most = λ t le. grind arith;
+  soon = omega arith;
+  met = (0, omega arith, record { some = omega arith; end = 9000; enough = omega arith; least = λ t enough. grind arith; is = refl });
+  most = λ t le. (9000 * (1 + (t + 0) / 9000), grind arith, grind arith);
+  short = omega arith;
 }
 
 abbrev first : Sender
@@ -43,7 +45,7 @@ pub takes_its_wait : TakesItsWait
 unfolding cutting fragments_at
 takes_its_wait = record {
   senders = record { ports = refl; periods = grind arith };
-  wait = (refl, three_wait);
+  wait = (refl, (are_none three_plan (link_plan_at three_plan.links 0) 1 three_senders, three_wait));
   run = waits_its_turn;
   quiet = seen_is;
   keep = third_keep;
@@ -51,19 +53,28 @@ takes_its_wait = record {
 }
 
 -- one fragment each 1,000 microseconds, with a round of 1,000
-pub byte_wait : IsWaitByTraffic 1000 (record { fragments = 1; period = 1000; jitter = 0 } ∷ []) 1000
+pub byte_wait : IsWaitInGroup 1000 (record { fragments = 1; period = 1000; jitter = 0 } ∷ []) [] 1000
 byte_wait = record {
   busy = 1000;
   is_busy = record { some = omega arith; is = refl; least = λ t some is. grind arith };
-  met = (0, omega arith, refl);
-  most = λ t le. grind arith;
+  soon = omega arith;
+  met = (0, omega arith, record { some = omega arith; end = 1000; enough = omega arith; least = λ t enough. grind arith; is = refl });
+  most = λ t le. (1000 * (1 + (t + 0) / 1000), grind arith, grind arith);
+  short = omega arith;
 }
 
-wait_is : IsWaitOf 0 byte_plan byte_senders byte_sender 1000
-wait_is = (refl, byte_wait)
+pub byte_none : (senders : List Sender) → AreMates byte_plan (link_plan_at byte_plan.links 0) 0 senders 0
+byte_none senders = are_none byte_plan (link_plan_at byte_plan.links 0) 0 senders
 
-longer : IsWaitByTraffic 1000 (record { fragments = 1; period = 1000; jitter = 0 } ∷ []) 999 → ⊥
-longer of = let least = of.most 0 (omega arith) in absurd (omega arith)
+wait_is : IsLoneWait 0 byte_plan byte_senders 0 0 1000
+wait_is = (refl, (byte_none byte_senders, byte_wait))
+
+longer : IsLoneWait 0 byte_plan byte_senders 0 0 999 → ⊥
+longer of =
+    let least = of.1.1.most 0 (omega arith) in
+    let enough = least.1 in
+    let soon = least.2 in
+    absurd (grind arith)
 
 ours : AreSendersOf byte_plan byte_senders
 ours = grind arith
@@ -74,8 +85,8 @@ foreign_is of =
     let same : ◌≡◌ {A = ℕ} 11 10 = ap id_of of.ports in
     absurd (omega arith)
 
-foreign_wait : IsWaitOf 0 byte_plan other_senders byte_sender 1000
-foreign_wait = (refl, byte_wait)
+foreign_wait : IsLoneWait 0 byte_plan other_senders 0 0 1000
+foreign_wait = (refl, (byte_none other_senders, byte_wait))
 
 -- one port keeps its period
 pub keeps_one : (sender : Sender) (start period : ℕ) (arrivals : List Arrival) → sender.period ≡ Some period
@@ -185,20 +196,24 @@ begins_other is = other_bytes (cons_parts is.1).0
 
 -- With a jitter of a microsecond less than the period, or of two.
 
-late_wait : IsWaitByTraffic 1000 (record { fragments = 1; period = 2000; jitter = 1999 } ∷ []) 1999
+late_wait : IsWaitInGroup 1000 (record { fragments = 1; period = 2000; jitter = 1999 } ∷ []) [] 1999
 late_wait = record {
   busy = 2000;
   is_busy = record { some = omega arith; is = refl; least = λ t some is. grind arith };
-  met = (1, omega arith, refl);
-  most = λ t le. grind arith;
+  soon = omega arith;
+  met = (1, omega arith, record { some = omega arith; end = 2000; enough = omega arith; least = λ t enough. grind arith; is = refl });
+  most = λ t le. (1000 * (1 + (t + 1999) / 2000), grind arith, grind arith);
+  short = omega arith;
 }
 
-later_wait : IsWaitByTraffic 1000 (record { fragments = 1; period = 2000; jitter = 1998 } ∷ []) 1998
+later_wait : IsWaitInGroup 1000 (record { fragments = 1; period = 2000; jitter = 1998 } ∷ []) [] 1998
 later_wait = record {
   busy = 2000;
   is_busy = record { some = omega arith; is = refl; least = λ t some is. grind arith };
-  met = (2, omega arith, refl);
-  most = λ t le. grind arith;
+  soon = omega arith;
+  met = (2, omega arith, record { some = omega arith; end = 2000; enough = omega arith; least = λ t enough. grind arith; is = refl });
+  most = λ t le. (1000 * (1 + (t + 1998) / 2000), grind arith, grind arith);
+  short = omega arith;
 }
 
 late_are : (jitter : ℕ) → jitter ≤ 2000 → AreSendersOf byte_plan (late_senders jitter)
@@ -248,7 +263,7 @@ pub meets_with_jitter : MeetsWithJitter
 unfolding log cutting fragments_at
 meets_with_jitter = record {
   senders = late_are 1999 (omega arith);
-  wait = (refl, late_wait);
+  wait = (refl, (byte_none (late_senders 1999), late_wait));
   accepted = needs_its_premises.crowded.accepted;
   starts = tt;
   quiet = refl;
@@ -258,7 +273,7 @@ meets_with_jitter = record {
   is_up = refl;
   timely = grind arith;
   released = traffic_in_run_holds byte_plan (late_senders 1999) (bytes_accepted 2) (1000 ∷ 2000 ∷ []) no_line both_line 0 0 0 0 1999 []
-      (byte_arrivals (0 ∷ [])) (accepted_at 1 (short_sent 0)) [] byte_sender needs_its_premises.valid (late_are 1999 (omega arith)) refl (refl, late_wait)
+      (byte_arrivals (0 ∷ [])) (accepted_at 1 (short_sent 0)) [] needs_its_premises.valid (late_are 1999 (omega arith)) (refl, (byte_none (late_senders 1999), late_wait))
       needs_its_premises.crowded.accepted tt refl late_keep late_finding late_begins refl (grind arith);
   sooner = late_sooner;
 }
@@ -276,7 +291,7 @@ needs_traffic =
       unkept = grind (arith, ours, wait_is, at_once, in_time, rows.crowded);
       hasty = record {
         senders_are = late_are 1998 (omega arith);
-        wait_is = (refl, later_wait);
+        wait_is = (refl, (byte_none (late_senders 1998), later_wait));
         accepted = rows.crowded.accepted;
         starts = tt;
         quiet = refl;

@@ -1,29 +1,41 @@
 -- The worked runs, by computation.
-use Rattle.run_laws.proofs.Names.{◌≡◌, ℕ, ◌+◌, ◌<◌, ◌≤◌, ◌⊎◌, List, [], ◌∷◌, ◌++◌, length, true, refl, ap, sym, ◌∙◌, arith, inl, inr, Some, false≢true, length-append, A, cutting, fragments_at, blanked, Sent, addresses, header_front, internet_header, link_header, udp_header, datagram, unnumbered, Entry, entry, Lines, BothEndure, log, any_up, LinkPlan, may_release, is_due, turn_of, Served, Nothing, Released, Lost, Drains, pace_in, stream_at, next_wait, EmitterPolls, DrainPolls, AreRuns, ComesBy, cons_parts, slice_index, link_in, sub_in, number_in, interface_byte, None, All, All-head, All-tail, IsPlan, IsLater, latest, IsPrefixOf, IsAccepted, HasPlace, AreFinding, fragments_of, seen_of, Owes, logged_for, back_frame, stray_frame, stray_line, both_at, lost_line, NeedsARun, small_link, small_plan, message_accepted, front_line, both_lines, front_entry, ComesInRun, tight_link, tight_plan, tight_sent, tight_accepted, tight_frame, tight_line, TightReleased, MeetsTheWait, append_cancel_left, Plan, link_plan_at, AreReleasedBy}
+use Rattle.run_laws.proofs.Names.{◌≡◌, ℕ, ◌+◌, ◌<◌, ◌≤◌, ◌⊎◌, List, [], ◌∷◌, ◌++◌, length, true, refl, ap, sym, ◌∙◌, arith, inl, inr, Some, false≢true, length-append, A, cutting, fragments_at, blanked, Sent, addresses, header_front, internet_header, link_header, udp_header, datagram, unnumbered, Entry, entry, Lines, BothEndure, log, any_up, LinkPlan, may_release, is_due, turn_of, Served, Nothing, Released, Lost, Drains, pace_in, stream_at, next_wait, EmitterPolls, DrainPolls, AreRuns, ComesBy, cons_parts, slice_index, link_in, sub_in, number_in, interface_byte, None, All, All-head, All-tail, IsPlan, IsLater, latest, IsPrefixOf, IsAccepted, HasPlace, AreFinding, fragments_of, seen_of, IsReleased, Owes, logged_for, back_frame, stray_frame, stray_line, both_at, lost_line, NeedsARun, small_link, small_plan, message_accepted, front_line, both_lines, front_entry, ComesInRun, tight_link, tight_plan, tight_sent, tight_accepted, tight_frame, tight_line, TightReleased, MeetsTheWait, append_cancel_left, Plan, link_plan_at, AreReleasedBy}
 use Rattle.afdx_frame.specs.Checksum.{checksum}
 use Rattle.run_laws.proofs.Ran.{seen_both}
 use Rattle.run_laws.proofs.NextRun.{next_in_run_holds}
 use Rattle.run_laws.proofs.MessageRun.{message_in_run_holds}
 
--- a turn that releases the next frame of the one sub-VL, on both networks
-pub releases : (now number : ℕ) (link : LinkPlan) (accepted : ℕ → List Sent) (lines after : Lines) (frame : List ℕ)
+-- a turn that releases the next frame of a sub-VL, on both networks
+pub releases_of : (now number sub turn : ℕ) (link : LinkPlan) (accepted : ℕ → List Sent) (lines after : Lines) (frame : List ℕ)
     → may_release now link (pace_in link (log lines)) lines ≡ true → number ≡ (pace_in link (log lines)).next
-    → 0 < link.sub_vls → 0 ≡ turn_of link.sub_vls (pace_in link (log lines)).last 0 → Owes 1 link accepted (log lines) 0
-    → length frame ≡ 60 → link_in frame ≡ link.id.0 → sub_in frame ≡ 0 → number_in frame ≡ number → slice_index frame 11 ≡ interface_byte A
+    → turn < link.sub_vls → sub ≡ turn_of link.sub_vls (pace_in link (log lines)).last turn
+    → ((k : ℕ) → k < turn → IsReleased 1 link accepted (log lines) (turn_of link.sub_vls (pace_in link (log lines)).last k))
+    → Owes 1 link accepted (log lines) sub
+    → length frame ≡ 60 → link_in frame ≡ link.id.0 → sub_in frame ≡ sub → number_in frame ≡ number → slice_index frame 11 ≡ interface_byte A
     → after.logged ≡ lines.logged ++ logged_for link.networks (entry now frame) ∷ []
-    → any_up link.networks after ≡ true → BothEndure lines after → Drains now 1 link accepted lines after (Released 0 number)
-releases now number link accepted lines after frame may next some is owed size own sub carries interface enters stands stays_down = (
+    → any_up link.networks after ≡ true → BothEndure lines after → Drains now 1 link accepted lines after (Released sub number)
+releases_of now number sub turn link accepted lines after frame may next within is before owed size own its carries interface enters stands stays_down = (
   may,
   next,
   record {
     frame = frame;
-    choice = record { turn = 0; within = some; is = is; chosen = owed; before = grind arith; others = λ s other. tt };
+    choice = record { turn = turn; within = within; is = is; chosen = owed; before = before; others = λ s other. tt };
     of = grind arith;
     enters = enters;
     stands = stands;
     stays_down = stays_down;
   },
 )
+
+-- of the one sub-VL
+pub releases : (now number : ℕ) (link : LinkPlan) (accepted : ℕ → List Sent) (lines after : Lines) (frame : List ℕ)
+    → may_release now link (pace_in link (log lines)) lines ≡ true → number ≡ (pace_in link (log lines)).next
+    → 0 < link.sub_vls → 0 ≡ turn_of link.sub_vls (pace_in link (log lines)).last 0 → Owes 1 link accepted (log lines) 0
+    → length frame ≡ 60 → link_in frame ≡ link.id.0 → sub_in frame ≡ 0 → number_in frame ≡ number → slice_index frame 11 ≡ interface_byte A
+    → after.logged ≡ lines.logged ++ logged_for link.networks (entry now frame) ∷ []
+    → any_up link.networks after ≡ true → BothEndure lines after → Drains now 1 link accepted lines after (Released 0 number)
+releases now number link accepted lines after frame may next some is owed =
+    releases_of now number 0 0 link accepted lines after frame may next some is (λ k lt. absurd (omega arith)) owed
 
 -- the first poll that may release a frame transmits it
 back_turn : (now : ℕ) → is_due 1000 (Some (record { at = 0; sub = 0 })) now ≡ true

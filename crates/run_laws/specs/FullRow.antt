@@ -11,12 +11,12 @@ use Rattle.afdx_tx.specs.DrainEnds.{stream_at}
 use Rattle.afdx_tx.specs.Ports.{PortView, Refuses}
 use Rattle.afdx_tx.specs.declared.fault.Refusal.TheVariants.{Full}
 use Rattle.plan_analysis.specs.declared.traffic.Sender.{Sender}
-use Rattle.plan_analysis.specs.Traffic.{AreSendersOf, IsSubNeed, round_of}
+use Rattle.plan_analysis.specs.Traffic.{AreSendersOf}
 use Rattle.run_laws.specs.MessageInRun.{AreTimely, fragments_of, seen_of}
-use Rattle.run_laws.specs.TrafficInRun.{KeepPeriods, AreFindingAll, accepted_by, messages_in}
+use Rattle.run_laws.specs.TrafficInRun.{IsLoneWait, KeepPeriods, AreFindingAll, accepted_by, messages_in}
 use Rattle.run_laws.specs.TrafficRow.{Unless, byte_arrivals, late_senders}
 use Rattle.run_laws.specs.WorkedRun.{short_port, short_sent, byte_plan, bytes_accepted, byte_line, no_line, failed_line}
-use Rattle.run_laws.specs.NeverFull.{AsksAfter, asked_at, queued_of}
+use Rattle.run_laws.specs.NeverFull.{AsksAfter, IsNeedFor, asked_at, queued_of}
 
 -- the port, with this period
 abbrev pub each : ℕ → List Sender
@@ -45,14 +45,14 @@ load_at before earlier others after =
     queued_of byte_plan 0 (accepted_so before earlier) (length (seen_of 0 (stream_at byte_plan 0 after)))
     + length others
 
--- The premises of the law for a request at `now`. The sub-VL accepted `many` messages, `before` of them before the
+-- The premises of the law for a request at `now`. The wait of the sub-VL is 1,000. The sub-VL accepted `many` messages, `before` of them before the
 -- start, and others at the times `earlier`; requests for `others` are under way. The premise of number `failing` fails,
 -- and each other one holds.
 pub record AskCase (failing : ℕ) (senders : List Sender) (need many before start : ℕ) (earlier : List ℕ)
     (others : List Sent) (now : ℕ) (moments : List ℕ) (lines after : Lines) : Type 0 where
   pub senders_are : Unless failing 0 (AreSendersOf byte_plan senders)
-  pub need_is : Unless failing 1 (IsSubNeed (round_of 0 byte_plan (link_plan_at byte_plan.links 0))
-      (link_plan_at byte_plan.links 0) 0 senders need)
+  pub wait_is : IsLoneWait 0 byte_plan senders 0 0 1000
+  pub need_is : Unless failing 1 (IsNeedFor 0 byte_plan senders 0 0 1000 need)
   pub fits : Unless failing 2 (need ≤ (link_plan_at byte_plan.links 0).capacity)
   pub asks : Unless failing 3 (AsksAfter byte_plan (bytes_accepted many) 0 0 (accepted_so before earlier) others
       (short_sent 0) [])

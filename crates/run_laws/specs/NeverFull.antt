@@ -12,9 +12,10 @@ use Rattle.afdx_tx.specs.DrainEnds.{stream_at}
 use Rattle.afdx_tx.specs.Ports.{PortView, Refuses}
 use Rattle.afdx_tx.specs.declared.fault.Refusal.TheVariants.{Full}
 use Rattle.plan_analysis.specs.declared.traffic.Sender.{Sender}
-use Rattle.plan_analysis.specs.Traffic.{AreSendersOf, IsSubNeed, round_of}
+use Rattle.plan_analysis.specs.Traffic.{AreSendersOf, IsGroupWait, IsNeed, flows_of, have_periods, round_of}
 use Rattle.run_laws.specs.MessageInRun.{AreTimely, fragments_of, seen_of}
-use Rattle.run_laws.specs.TrafficInRun.{Arrival, KeepPeriods, AreFindingAll, accepted_by, messages_in}
+use Rattle.run_laws.specs.TrafficInRun.{Arrival, IsLoneWait, KeepPeriods, AreFindingAll, accepted_by, messages_in}
+use Rattle.run_laws.specs.GroupInRun.{IsGroupRun}
 
 -- The messages without a fragment among the first `gone` of their sub-VL: the messages in its queue. A message leaves
 -- the queue when its first fragment is released.
@@ -37,6 +38,18 @@ pub record AsksAfter (plan : Plan) (accepted : Accepted) (k s : ℕ)
   pub others : All (IsAllowed plan k s) asked
   pub asking : IsAllowed plan k s own
 
+-- the places that the queue of a sub-VL needs if its messages wait no longer than this
+abbrev pub IsNeedFor : ℕ → Plan → List Sender → (k s wait need : ℕ) → Type 0
+IsNeedFor late plan senders k s wait need = IsNeed (round_of late plan (link_plan_at plan.links k) s 0)
+    (flows_of (link_plan_at plan.links k) s senders) wait need
+
+-- The request finds no more messages and requests under way than there are, and its queue isn't full.
+abbrev pub IsNotRefused : Plan → (k s : ℕ) → (messages asked : List Sent) → Lines → Type 0
+IsNotRefused plan k s messages asked after = (port new : PortView) (size : ℕ)
+    → port.sender.capacity ≡ (link_plan_at plan.links k).capacity
+    → new.sender.load ≤ queued_of plan k messages (length (seen_of s (stream_at plan k after))) + length asked
+    → Refuses port size Full new → ⊥
+
 -- A port isn't refused as full at `now` if its request finds no more messages and requests under way than there are,
 -- and its queue has the places that the traffic needs. At the start of the run its sub-VL had sent all that it had
 -- accepted. Since then its ports keep their periods with their jitter, where each request under way counts as a
@@ -44,9 +57,9 @@ pub record AsksAfter (plan : Plan) (accepted : Accepted) (k s : ℕ)
 -- carries the link is up after them.
 abbrev pub NeverFull : Type 0
 NeverFull = (plan : Plan) (senders : List Sender) (accepted : Accepted) (moments : List ℕ) (lines after : Lines)
-    (k s late start now need : ℕ) (before : List Sent) (arrivals : List Arrival) (asked : List Sent) (own : Sent)
+    (k s late start now wait need : ℕ) (before : List Sent) (arrivals : List Arrival) (asked : List Sent) (own : Sent)
     (later : List Sent) → IsPlan plan → AreSendersOf plan senders
-    → IsSubNeed (round_of late plan (link_plan_at plan.links k)) (link_plan_at plan.links k) s senders need
+    → IsLoneWait late plan senders k s wait → IsNeedFor late plan senders k s wait need
     → need ≤ (link_plan_at plan.links k).capacity
     → AsksAfter plan accepted k s (before ++ messages_in arrivals) asked own later
     → IsLater (latest None (stream_at plan k lines)) start
@@ -55,7 +68,18 @@ NeverFull = (plan : Plan) (senders : List Sender) (accepted : Accepted) (moments
     → AreFindingAll plan accepted k s (accepted_by plan k before arrivals) moments lines after
     → any_up (link_plan_at plan.links k).networks after ≡ true
     → AreTimely (bag_micros (link_plan_at plan.links k).bag) late (now - 1) start moments
-    → (port new : PortView) (size : ℕ) → port.sender.capacity ≡ (link_plan_at plan.links k).capacity
-    → new.sender.load ≤ queued_of plan k (before ++ messages_in arrivals) (length (seen_of s (stream_at plan k after)))
-    + length asked
-    → Refuses port size Full new → ⊥
+    → IsNotRefused plan k s (before ++ messages_in arrivals) asked after
+
+-- The same with the wait by traffic in a group, if the other sub-VLs of the group keep their periods too.
+abbrev pub NeverFullInGroup : Type 0
+NeverFullInGroup = (plan : Plan) (senders : List Sender) (accepted : Accepted) (moments : List ℕ) (lines after : Lines)
+    (k s mates late start now wait need : ℕ) (before : ℕ → List Sent) (arrivals : ℕ → List Arrival)
+    (later : ℕ → List Sent) (asked : List Sent) (own : Sent) → IsPlan plan → AreSendersOf plan senders
+    → have_periods (link_plan_at plan.links k) s senders ≡ true
+    → IsGroupWait late plan (link_plan_at plan.links k) s senders mates wait
+    → IsNeedFor late plan senders k s wait need → need ≤ (link_plan_at plan.links k).capacity
+    → AsksAfter plan accepted k s (before s ++ messages_in (arrivals s)) asked own (later s)
+    → IsGroupRun plan senders accepted k s mates start before arrivals later moments lines after
+    → KeepPeriods senders start ((arrivals s ++ map (asked_at now) asked) ++ asked_at now own ∷ [])
+    → AreTimely (bag_micros (link_plan_at plan.links k).bag) late (now - 1) start moments
+    → IsNotRefused plan k s (before s ++ messages_in (arrivals s)) asked after

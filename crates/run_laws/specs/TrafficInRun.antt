@@ -11,7 +11,7 @@ use Rattle.afdx_legal.specs.Legal.{Accepted}
 use Rattle.afdx_tx.specs.Run.{IsDrained}
 use Rattle.afdx_tx.specs.DrainEnds.{stream_at}
 use Rattle.plan_analysis.specs.declared.traffic.Sender.{Sender}
-use Rattle.plan_analysis.specs.Traffic.{AreSendersOf, IsWaitOf}
+use Rattle.plan_analysis.specs.Traffic.{AreSendersOf, IsGroupWait, have_periods}
 use Rattle.run_laws.specs.Runs.{ArePolls}
 use Rattle.run_laws.specs.MessageInRun.{AreTimely, AreReleasedBy, FindsIt, IsAccepted, fragments_of, seen_of}
 
@@ -73,15 +73,19 @@ abbrev pub AreFindingAll : Plan → Accepted → (k s : ℕ) → (count : ℕ �
 AreFindingAll plan accepted k s count =
     ArePolls (λ now lines after. FindsIt plan k s (count now) now lines after ⊎ IsDrained now plan accepted lines after)
 
--- A message is wholly released within the wait by traffic of its port, from its acceptance on. At the start of the run
+-- the wait by traffic of a message on a sub-VL of a link in the group of that sub-VL alone
+abbrev pub IsLoneWait : ℕ → Plan → List Sender → (k s wait : ℕ) → Type 0
+IsLoneWait late plan senders k s wait = (have_periods (link_plan_at plan.links k) s senders ≡ true)
+    × IsGroupWait late plan (link_plan_at plan.links k) s senders 0 wait
+
+-- A message is wholly released within its wait by traffic, whatever the other sub-VLs send. At the start of the run
 -- its sub-VL had sent all that it had accepted. Since then its ports keep their periods with their jitter, the polls
 -- come when its link is due, find the accepted messages, and continue until the wait is over. A network that carries
 -- the link is up after them.
 abbrev pub TrafficInRun : Type 0
 TrafficInRun = (plan : Plan) (senders : List Sender) (accepted : Accepted) (moments : List ℕ) (lines after : Lines)
     (k s late start wait : ℕ) (before : List Sent) (earlier : List Arrival) (own : Arrival) (later : List Sent)
-    (sender : Sender) → IsPlan plan → AreSendersOf plan senders → sender.port ≡ own.sent.port
-    → IsWaitOf late plan senders sender wait
+    → IsPlan plan → AreSendersOf plan senders → IsLoneWait late plan senders k s wait
     → IsAccepted plan accepted k s (before ++ messages_in earlier) own.sent later
     → IsLater (latest None (stream_at plan k lines)) start
     → seen_of s (stream_at plan k lines) ≡ fragments_of plan k before

@@ -8,12 +8,12 @@ use Rattle.vl_shaper.specs.Pace.{IsLater}
 use Rattle.afdx_legal.specs.Streams.{latest, IsPrefixOf}
 use Rattle.afdx_tx.specs.DrainEnds.{stream_at}
 use Rattle.plan_analysis.specs.declared.traffic.Sender.{Sender}
-use Rattle.plan_analysis.specs.Traffic.{AreSendersOf, IsWaitOf}
+use Rattle.plan_analysis.specs.Traffic.{AreSendersOf}
 use Rattle.afdx_laws.specs.Rows.{Holds}
 use Rattle.run_laws.specs.Runs.{ArePolls, EmitterPolls}
 use Rattle.run_laws.specs.MessageInRun.{AreTimely, AreReleasedBy, FindsIt, IsAccepted, fragments_of, seen_of}
 use Rattle.run_laws.specs.WorkedRun.{short_port, short_sent, short_frame, byte_plan, bytes_accepted, no_line, byte_line, failed_line, lines_by, other_frame, three_plan, line_after, WaitsItsTurn}
-use Rattle.run_laws.specs.TrafficInRun.{Arrival, KeepPeriods, AreFindingAll, accepted_by, messages_in}
+use Rattle.run_laws.specs.TrafficInRun.{Arrival, IsLoneWait, KeepPeriods, AreFindingAll, accepted_by, messages_in}
 
 abbrev pub accepted_at : ℕ → Sent → Arrival
 accepted_at at sent = record { at = at; sent = sent }
@@ -34,7 +34,7 @@ third_arrival = accepted_at 3000 (short_sent 1) ∷ []
 -- traffic is 9,000, one round of three sub-VLs, and the message is released at exactly 12,000.
 pub record TakesItsWait : Type 0 where
   pub senders : AreSendersOf three_plan three_senders
-  pub wait : IsWaitOf 2000 three_plan three_senders (sender_of 9000) 9000
+  pub wait : IsLoneWait 2000 three_plan three_senders 0 1 9000
   pub run : WaitsItsTurn
   pub quiet : seen_of 1 (stream_at three_plan 0 (line_after 2)) ≡ fragments_of three_plan 0 (short_sent 1 ∷ [])
   pub keep : KeepPeriods three_senders 3000 third_arrival
@@ -80,7 +80,7 @@ SecondReleased bound = AreReleasedBy byte_plan 0 0 (short_sent 0 ∷ short_sent 
 -- wait by traffic is 1,999, and the second message is released at exactly 2,000.
 pub record MeetsWithJitter : Type 0 where
   pub senders : AreSendersOf byte_plan (late_senders 1999)
-  pub wait : IsWaitOf 0 byte_plan (late_senders 1999) byte_sender 1999
+  pub wait : IsLoneWait 0 byte_plan (late_senders 1999) 0 0 1999
   pub accepted : IsAccepted byte_plan (bytes_accepted 2) 0 0 (messages_in (byte_arrivals (0 ∷ []))) (short_sent 0) []
   pub starts : IsLater (latest None (stream_at byte_plan 0 no_line)) 0
   pub quiet : seen_of 0 (stream_at byte_plan 0 no_line) ≡ fragments_of byte_plan 0 []
@@ -104,7 +104,7 @@ Unless failing premise P = Holds (not (nat_eq failing premise)) P
 pub record ArrivalCase (failing : ℕ) (senders : List Sender) (wait many before start : ℕ) (earlier : List ℕ)
     (at now : ℕ) (lines after : Lines) : Type 0 where
   pub senders_are : Unless failing 0 (AreSendersOf byte_plan senders)
-  pub wait_is : Unless failing 1 (IsWaitOf 0 byte_plan senders byte_sender wait)
+  pub wait_is : Unless failing 1 (IsLoneWait 0 byte_plan senders 0 0 wait)
   pub accepted : Unless failing 2 (IsAccepted byte_plan (bytes_accepted many) 0 0
       (replicate before (short_sent 0) ++ messages_in (byte_arrivals earlier)) (short_sent 0) [])
   pub starts : Unless failing 3 (IsLater (latest None (stream_at byte_plan 0 lines)) start)

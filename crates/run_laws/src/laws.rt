@@ -1,6 +1,8 @@
 //! Laws over runs of polls. The functions are empty: each contract is a law.
 ghost use Rattle.run_laws.specs.MessageInRun.{MessageInRun, ApartAreTimely};
-ghost use Rattle.run_laws.specs.NeverFull.{NeverFull};
+ghost use Rattle.run_laws.specs.GroupInRun.{GroupInRun};
+ghost use Rattle.run_laws.specs.GroupRow.{NeedsItsMates, TakesItsGroupWait};
+ghost use Rattle.run_laws.specs.NeverFull.{NeverFull, NeverFullInGroup};
 ghost use Rattle.run_laws.specs.FullRow.{FillsItsQueue, NeedsPlaces};
 ghost use Rattle.run_laws.specs.Runs.{NextInRun, KeptReady};
 ghost use Rattle.run_laws.specs.TrafficInRun.{TrafficInRun};
@@ -63,21 +65,26 @@ pub fn message_in_run()
     ensures needed { NeedsItsPremises }
 {}
 
-/// An accepted message is wholly released within the wait by traffic of its port, if each port of its sub-VL keeps a
-/// period with its jitter, whatever the other sub-VLs send. `plan_analysis::traffic_bounds` computes that wait.
+/// An accepted message is wholly released within its wait by traffic in a group of sub-VLs of its link, if each port of
+/// the group keeps a period with its jitter, whatever the other sub-VLs send. `plan_analysis::traffic_bounds` computes
+/// the least of these waits, over all groups that contain the sub-VL of the message (`IsSubWait`).
 ///
-/// The run starts at a time at which the sub-VL has sent all that it accepted, for example when the end system opens.
-/// The wait starts when the message is accepted, at any time of the run. Premises:
+/// The run starts at a time at which each sub-VL of the group has sent all that it accepted, for example when the end
+/// system opens. The wait starts when the message is accepted, at any time of the run. Premises (`IsGroupRun`):
 ///
-/// - The messages of the sub-VL are accepted in this order, none before the start. Each one is accepted at most the
-///   jitter of its port after its planned time, and the planned times of a port are at least its period apart
+/// - The messages of each sub-VL of the group are accepted in this order, none before the start. Each one is accepted at
+///   most the jitter of its port after its planned time, and the planned times of a port are at least its period apart
 ///   (`KeepPeriods`).
-/// - A poll of the emitter that polls the queue of the sub-VL finds a message there while one that was accepted before
-///   the time of the poll isn't wholly released (`AreFindingAll`). A drain needs no such premise.
+/// - A poll of the emitter that polls the queue of a sub-VL of the group finds a message there while one that was
+///   accepted before the time of the poll isn't wholly released (`FindsGroup`). A drain needs no such premise.
+/// - A poll sends no message of another sub-VL of the group that is accepted after the time of the poll (`sooner`).
 /// - Polls are timely from the start until the wait is over (`AreTimely`), the start isn't before the last release, the
 ///   fragments sent so far begin the fragments of the accepted list, and a network that carries the link is up after
 ///   the polls, as for `message_in_run`.
+///
+/// In the group of its sub-VL alone (`wait`) only the ports of that sub-VL keep periods.
 pub fn traffic_in_run()
+    ensures group { GroupInRun }
     ensures wait { TrafficInRun }
 
     // a message of an emitter with three sub-VLs that takes exactly its wait
@@ -86,14 +93,20 @@ pub fn traffic_in_run()
     // the second of two messages as near as the jitter allows, which takes exactly its wait
     ensures near { MeetsWithJitter }
 
+    // the second of two messages beside one of another sub-VL, which takes exactly its wait in the group of both
+    ensures shared { TakesItsGroupWait }
+
+    // the same beside two messages at once, where the other sub-VL doesn't keep its period
+    ensures mates { NeedsItsMates }
+
     // senders that aren't the plan's; a shorter wait; a message that isn't accepted; a start before the last release; a
     // sub-VL that owes a fragment at the start; a period that isn't kept; a jitter that isn't; a message before the
     // start; a poll that doesn't find the message; an emitter that sends another; networks that are down; a late poll
     ensures needed { NeedsTraffic }
 {}
 
-/// A port isn't refused as full if the queue of its sub-VL has the places that the traffic needs, whatever the other
-/// sub-VLs send. `plan_analysis::traffic_bounds` computes that need.
+/// A port isn't refused as full if the queue of its sub-VL has the places that the traffic needs, whatever sub-VLs
+/// outside its group send. `plan_analysis::traffic_bounds` computes that need, by the least wait of a group.
 ///
 /// That is, what `Full` says in the contract of `TxPort::send_slice` (`refused`, `Refuses`: the request found at least
 /// as many messages held and requests under way as the capacity) can't hold of a request that finds no more than there
@@ -103,7 +116,10 @@ pub fn traffic_in_run()
 /// - Each request that is under way counts as a message of its port at that time (`KeepPeriods`). If its port has no
 ///   jitter, it has one at most, and none sooner than its period after its last message.
 /// - Polls are timely until the microsecond before: one that is due at the time of the request may come after it.
+///
+/// In the group of its sub-VL alone (`never`) only the ports of that sub-VL keep periods.
 pub fn never_full()
+    ensures group { NeverFullInGroup }
     ensures never { NeverFull }
 
     // a request that takes the last place
