@@ -49,11 +49,11 @@ FAULTS = {
         'row 3, dest_ip: "10.1.1.1" is seen, and row 2 has the same partition and dest_ip, but another vl'
     ],
     HEAD + "\n" + "".join(ROW.replace("10,,0", f"{k},,0").replace("1000", f"{k}") + "\n" for k in range(1, 67)): [
-        "row 66, sub: at most 64 ports of one sub-VL are wanted", "row 67, sub: at most 64 ports of one sub-VL are wanted"
+        f'row {row}, sub: at most 64 ports of one sub-VL are wanted, and "0" has one more' for row in (66, 67)
     ],
-    HEAD + "\n" + "".join(f"{k}," + ROW[2:].replace("10,,0", f"{k},,0") + "\n" for k in range(67)): ["row 66, vl: at most 64 links are wanted"],
+    HEAD + "\n" + "".join(f"{k}," + ROW[2:].replace("10,,0", f"{k},,0") + "\n" for k in range(67)): ['row 66, vl: at most 64 links are wanted, and "64" is one more'],
     HEAD + "\n" + "".join(f"{k % 50}," + ROW[2:].replace("10,,0", f"{k},,0").replace("1000", f"{k + 1}") + "\n" for k in range(300)): [
-        "row 258: at most 256 rows of ports are wanted"
+        "row 258: at most 256 rows of ports are wanted, and this is one more"
     ],
 }
 

@@ -76,8 +76,16 @@ pub enum Wrong {
         lmax: String,
         seen: String,
     },
-    #[error("{0} are wanted")]
-    Limit(&'static str),
+    #[error("at most 256 rows of ports are wanted, and this is one more")]
+    ManyRows,
+    #[error("at most 64 links are wanted, and {vl} is one more")]
+    ManyLinks {
+        vl: String,
+    },
+    #[error("at most 64 ports of one sub-VL are wanted, and {sub} has one more")]
+    ManyPorts {
+        sub: String,
+    },
     #[error("the plan would have the fault {0}")]
     Plan(afdx_plan::ConfigFault),
 }

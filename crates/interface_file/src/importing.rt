@@ -225,8 +225,12 @@ fn wrong_of(
             lmax: cell_in(alloc, link, LMAX)?,
             seen,
         },
-        ConfigFault::Limit if place == VL => Wrong::Limit("at most 64 links"),
-        ConfigFault::Limit => Wrong::Limit("at most 64 ports of one sub-VL"),
+        ConfigFault::Limit if place == VL => Wrong::ManyLinks {
+            vl: quoted(alloc, row.cell(place).as_bytes())?,
+        },
+        ConfigFault::Limit => Wrong::ManyPorts {
+            sub: quoted(alloc, row.cell(place).as_bytes())?,
+        },
         _ => value(place, seen),
     })
 }

@@ -153,8 +153,7 @@ impl Document {
                 return Ok(());
             }
             self.is_full = true;
-            let wrong = Wrong::Limit("at most 256 rows of ports");
-            return self.faults.add(self.row, None, wrong);
+            return self.faults.add(self.row, None, Wrong::ManyRows);
         }
         let mut cells = Vec::with_capacity(alloc, 21)?;
         for place in 0..21usize {
