@@ -76,6 +76,13 @@ For more information, try '--help'.
 """
 
 
+def seen(cell):
+    """What a line says that a cell of a CSV file has: its first 40 bytes."""
+    data = cell.encode("utf-8", "surrogateescape")
+    shown = "".join(chr(it) if 32 <= it <= 126 and it not in b'"\\' else f"\\x{it:02x}" for it in data[:40])
+    return f'"{shown}{"..." if len(data) > 40 else ""}" is seen' if cell else "the cell is empty"
+
+
 def totals(messages, networks="equal", links=(1,)):
     """What a storm prints whose ports send `messages` messages of six bytes on each link."""
     lines = "".join(f"link {vl}: frames {messages}, bytes {60 * messages}, messages {messages}\n" for vl in links)

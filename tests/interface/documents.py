@@ -3,6 +3,8 @@ line that tells each; and mutated ones."""
 import random
 from collections.abc import Iterator
 
+from trying import seen
+
 COLUMNS = ("vl vl_name bag_ms lmax sub_vls capacity networks port name sub partition kind source destination max dest_ip "
            "checksum end_system period_us jitter_us deadline_us").split()
 LINK = ["vl_name", "bag_ms", "lmax", "sub_vls", "capacity", "networks"]
@@ -109,12 +111,6 @@ def laid_out(rng: random.Random, rows: list[Row]) -> tuple[str, list[str]]:
             lines.append(rng.choice(("", separator * (len(columns) - 1), separator.join([" "] * len(columns)))))
         lines.append(separator.join(cell(row.get(it, f"any {it}"), it) for it in columns))
     return rng.choice(("", "\ufeff")) + end.join(lines) + rng.choice(("", end)), [it for it in columns if it in others]
-
-
-def seen(cell: str) -> str:
-    """What a line says that a cell has."""
-    shown = "".join(it if " " <= it <= "~" and it not in '"\\' else "".join(f"\\x{byte:02x}" for byte in it.encode()) for it in cell[:40])
-    return f'"{shown}{"..." if len(cell.encode()) > 40 else ""}" is seen' if cell else "the cell is empty"
 
 
 def value_faults(rows: list[Row]) -> Iterator[tuple[list[Row], list[str]]]:

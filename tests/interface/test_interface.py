@@ -23,7 +23,7 @@ sys.dont_write_bytecode = True
 sys.path[:0] = [f"{ROOT}/tests", f"{ROOT}/tests/report", HERE]
 import documents  # noqa: E402
 from expected import check_of  # noqa: E402
-from trying import DEMO, Tries  # noqa: E402
+from trying import DEMO, Tries, seen  # noqa: E402
 
 HEAD = ",".join(documents.COLUMNS)
 ROW = "1,,8,200,2,4,,10,,0,1,sampling,1000,2000,64,,,1,,,"
@@ -78,7 +78,7 @@ def imported(text: str | bytes) -> tuple[int, str, list[str]]:
 
 def left_alone(columns: list[str]) -> list[str]:
     """The line of the columns that are left alone."""
-    shown = ", ".join(documents.seen(it).removesuffix(" is seen") for it in columns)
+    shown = ", ".join(seen(it).removesuffix(" is seen") for it in columns)
     return [f"document.csv: columns that are left alone: {shown}"] * bool(columns)
 
 
@@ -190,7 +190,7 @@ def refusal_faults() -> Iterator[str]:
     save("long.csv", HEAD + "\n" + ROW + "\n" + " " * 2**24)
     save("good.csv", "PORT;period_us;Unit\r\n\r\n 10 ;500000.0;x\r\n;;\r\n")
     too_long = "the script would have more than 1000000 lines: give fewer --seconds\n"
-    bad = "2 faults of the traffic\nbad.csv: line 2, period_us: 1 to 1000000000000 is wanted\nbad.csv: line 3, port: the plan has no port 9\n"
+    bad = "2 faults of the traffic\n" + f'bad.csv: line 2, period_us: 1 to 1000000000000 is wanted, and {seen("1,5")}\n' + "bad.csv: line 3, port: the plan has no port 9\n"
     schedule = ["schedule", "demo.toml", "--traffic"]
     for words, status, error in (
         ([*schedule, "fast.csv", "--seconds", "1"], 2, too_long),

@@ -9,6 +9,8 @@ from collections.abc import Iterator
 
 from groups import Flows, arrivals, need_of, times_of, wait_of
 
+from trying import seen
+
 Plan = dict
 PORTS = "port,name,period_us,deadline_us\n"
 JITTERS = "port,period_us,jitter_us\n"
@@ -26,32 +28,35 @@ FAULTS = {
     "name\n": ["line 1, port: the column is missing"],
     "port,port\n": ["line 1, port: the column occurs twice"],
     "port" + ",name" * 100_000 + "\nx\n": ["line 1, name: the column occurs twice"],
-    "Period_US;Port\n\n1,5;10\n;\n;x": ["line 3, period_us: 1 to 1000000000000 is wanted", "line 5, port: 0 to 65535 is wanted"],
-    PORTS + "10,a,1\n": ["line 2: the row has 3 fields, and the header 4"],
-    PORTS + "x,a,1,1\n": ["line 2, port: 0 to 65535 is wanted"],
-    PORTS + "65536,a,1,1\n": ["line 2, port: 0 to 65535 is wanted"],
-    PORTS + ",a,1,1\n": ["line 2, port: 0 to 65535 is wanted"],
+    "Period_US;Port\n\n1,5;10\n;\n;x": ['line 3, period_us: 1 to 1000000000000 is wanted, and "1,5" is seen', 'line 5, port: 0 to 65535 is wanted, and "x" is seen'],
+    PORTS + "10,a,1\n": ["line 2: the number of cells is 3, and that of the header 4"],
+    **{PORTS + f"{cell},a,1,1\n": [f"line 2, port: 0 to 65535 is wanted, and {seen(cell)}"] for cell in ("x", "65536", "", "1.50", "y" * 40, "y" * 41)},
     PORTS + "11,a,1,1\n": ["line 2, port: the plan has no port 11"],
     PORTS + "10,a,1,1\n10,b,1,1\n": ["line 3, port: port 10 already has a row, line 2"],
-    PORTS + "10,a,0,0\n": ["line 2, period_us: 1 to 1000000000000 is wanted", "line 2, deadline_us: 1 to 1000000000000 is wanted"],
-    PORTS + f"10,a,{LIMIT + 1},1.5\n": ["line 2, period_us: 1 to 1000000000000 is wanted", "line 2, deadline_us: 1 to 1000000000000 is wanted"],
-    PORTS + "10,a,-1,+1\n": ["line 2, period_us: 1 to 1000000000000 is wanted", "line 2, deadline_us: 1 to 1000000000000 is wanted"],
-    JITTERS + "10,1000,1001\n": ["line 2, jitter_us: 0 to 1000 is wanted"],
-    JITTERS + "10,1000,-1\n": ["line 2, jitter_us: 0 to 1000 is wanted"],
-    JITTERS + "10,,1\n": ["line 2, jitter_us: 0 is wanted without a period"],
-    JITTERS + "10,,x\n": ["line 2, jitter_us: 0 is wanted without a period"],
-    JITTERS + "10,0,5\n": ["line 2, period_us: 1 to 1000000000000 is wanted"],
+    **{
+        PORTS + f"10,a,{period}, {deadline}\n": [
+            f"line 2, {column}: 1 to {LIMIT} is wanted, and {seen(cell)}" for column, cell in (("period_us", period), ("deadline_us", deadline))
+        ]
+        for period, deadline in (("0", "0.0"), (str(LIMIT + 1), "1.5"), ("-1", "+1"), ("é", "\x1b[2J"))
+    },
+    JITTERS + "10,1000,1001\n": ['line 2, jitter_us: 0 to 1000 is wanted, and "1001" is seen'],
+    JITTERS + "10,1000,-1\n": ['line 2, jitter_us: 0 to 1000 is wanted, and "-1" is seen'],
+    JITTERS + "10,,1.0\n": ['line 2, jitter_us: 0 is wanted without a period, and "1.0" is seen'],
+    JITTERS + "10,,x\n": ['line 2, jitter_us: 0 is wanted without a period, and "x" is seen'],
+    JITTERS + "10,0,5\n": ['line 2, period_us: 1 to 1000000000000 is wanted, and "0" is seen'],
     JITTERS + f"10,1.5,{LIMIT + 1}\n": [
-        "line 2, period_us: 1 to 1000000000000 is wanted", "line 2, jitter_us: 0 to 1000000000000 is wanted"
+        'line 2, period_us: 1 to 1000000000000 is wanted, and "1.5" is seen',
+        'line 2, jitter_us: 0 to 1000000000000 is wanted, and "1000000000001" is seen',
     ],
     "jitter_us,port,Jitter_US\n0,10,0\n": ["line 1, jitter_us: the column occurs twice"],
     # (the last two are a byte that isn't UTF-8, and a name that is one byte too long)
     **{
-        PORTS + f"10,{name},1,1\n": ["line 2, name: at most 64 bytes of text without control characters are wanted"]
+        PORTS + f"10,{name},1,1\n": [f"line 2, name: at most 64 bytes of text without control characters are wanted, and {seen(name)}"]
         for name in ("\0", "a\x07", "\x1b[2J", "\x1fa", "a\x7fb", "\x80", "a\x9b", "\udcff", "a" * 65)
     },
     PORTS + '10,"a\nb",1,1\nx,,,\n': [
-        "line 2, name: at most 64 bytes of text without control characters are wanted", "line 4, port: 0 to 65535 is wanted"
+        'line 2, name: at most 64 bytes of text without control characters are wanted, and "a\\x0ab" is seen',
+        'line 4, port: 0 to 65535 is wanted, and "x" is seen',
     ],
 }
 
@@ -60,8 +65,8 @@ def crowds() -> Iterator[tuple[str, list[str]]]:
     """Traffic texts with as many faults as are printed, with one more and with many more, of one and of several in a row,
     and all faults of each."""
     for count in (1000, 1001, 20_000):
-        yield PORTS + "x,,,\n" * count, [f"line {k + 2}, port: 0 to 65535 is wanted" for k in range(count)]
-    kinds = [*(f"{column}: 1 to {LIMIT} is wanted" for column in ("period_us", "deadline_us")), "port: the plan has no port 9"]
+        yield PORTS + "x,,,\n" * count, [f'line {k + 2}, port: 0 to 65535 is wanted, and "x" is seen' for k in range(count)]
+    kinds = [*(f'{column}: 1 to {LIMIT} is wanted, and "0" is seen' for column in ("period_us", "deadline_us")), "port: the plan has no port 9"]
     yield PORTS + "9,,0,0\n" * 5000, [f"line {k + 2}, {kind}" for k in range(5000) for kind in kinds]
 
 

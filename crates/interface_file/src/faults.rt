@@ -2,7 +2,6 @@
 ghost use Rattle.std.specs.Prelude.{◌≡◌, ◌<◌, OnOk};
 
 use crate::columns::name_of;
-use interface_sheet::quoted;
 use std::alloc::{AllocError, Global};
 use std::fmt;
 use thiserror::Error;
@@ -128,13 +127,4 @@ impl Faults {
         let first = self.first.as_mut_slice();
         first.sort_unstable_by_key(|fault| (fault.row, fault.column));
     }
-}
-
-/// Returns that a cell has a value, or that it is empty.
-pub(crate) fn seen(alloc: Global, cell: &[u8]) -> Result<String, AllocError> {
-    if cell.is_empty() {
-        return String::from_str(alloc, "the cell is empty");
-    }
-    let cell = quoted(alloc, cell)?;
-    format!(in alloc; "{cell} is seen")
 }

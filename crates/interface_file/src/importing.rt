@@ -3,12 +3,12 @@ ghost use Rattle.std.specs.Prelude.{◌≡◌, ◌<◌, IfOk, IfSome, IsNone, Is
 ghost use Rattle.interface_file.specs.Import.{IsAccepted};
 
 use crate::columns::{Column, END_SYSTEM, LMAX, SUB_VLS, Subject, VL, column_at, column_with};
-use crate::faults::{DocumentFault, Faults, Wrong, seen};
+use crate::faults::{DocumentFault, Faults, Wrong};
 use crate::plan_text::{is_identifier, links_of, plan_text};
 use crate::reading::{Document, PortCells, read_document};
 use afdx_config::{Explanation, Place, PlanFinding, explain, read_config};
 use afdx_plan::{ConfigFault, LINKS_LIMIT};
-use interface_sheet::{Others, quoted};
+use interface_sheet::{Others, quoted, seen};
 use std::alloc::{AllocError, Global};
 
 /// The result of importing an interface document.

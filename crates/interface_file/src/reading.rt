@@ -2,10 +2,10 @@
 ghost use Rattle.std.specs.Prelude.{◌<◌, IfOk, IsNone, OnOk};
 
 use crate::columns::{Column, Content, Subject, column_at};
-use crate::faults::{Faults, Wrong, seen};
+use crate::faults::{Faults, Wrong};
 use afdx_plan::PORTS_LIMIT;
 use csv::{ByteRecord, ReaderBuilder};
-use interface_sheet::{COLUMNS, Others, bare, column_of, is_empty, line_of, separator_of, whole};
+use interface_sheet::{COLUMNS, Others, bare, column_of, is_empty, line_of, seen, separator_of, whole};
 use std::alloc::{AllocError, Global};
 
 /// The most bytes of a name.

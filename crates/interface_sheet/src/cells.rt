@@ -48,6 +48,15 @@ pub fn quoted(alloc: Global, cell: &[u8]) -> Result<String, AllocError> {
     Ok(text)
 }
 
+/// Returns that a cell has a value, or that it is empty.
+pub fn seen(alloc: Global, cell: &[u8]) -> Result<String, AllocError> {
+    if cell.is_empty() {
+        return String::from_str(alloc, "the cell is empty");
+    }
+    let cell = quoted(alloc, cell)?;
+    format!(in alloc; "{cell} is seen")
+}
+
 /// Adds a byte of a cell that is shown.
 fn push_shown(text: &mut String, byte: u8) -> Result<(), AllocError> {
     match byte {

@@ -7,7 +7,7 @@ mod columns;
 mod others;
 mod rows;
 
-pub use cells::{bare, quoted, whole};
+pub use cells::{bare, quoted, seen, whole};
 pub use columns::{COLUMNS, column_of};
 pub use others::Others;
 pub use rows::{is_empty, line_of, separator_of};

@@ -1,7 +1,7 @@
 //! The traffic of a plan: names, periods, jitters and deadlines of its ports, read from a CSV text.
 use afdx_plan::Config;
 use csv::{ByteRecord, ReaderBuilder};
-use interface_sheet::{Others, bare, column_of, is_empty, line_of, separator_of, whole};
+use interface_sheet::{Others, bare, column_of, is_empty, line_of, seen, separator_of, whole};
 use script_text::number;
 use std::alloc::{AllocError, Global};
 use std::fmt;
@@ -45,12 +45,12 @@ pub struct Traffic {
 
 /// A fault of a traffic text: its line from 1, the name of its column, if there is a column with a name, and the kind
 /// of fault. `Display` prints its line of the report.
-#[derive(Clone, Copy)]
+#[derive(Drop)]
 pub struct TrafficFault(pub u64, pub Option<&'static str>, pub Wrong);
 
 impl fmt::Display for TrafficFault {
     fn fmt<W: fmt::Write>(&self, f: &mut fmt::Formatter<W>) -> fmt::Result {
-        let TrafficFault(line, column, wrong) = *self;
+        let TrafficFault(line, column, wrong) = self;
         match column {
             Some(column) => write!(f, "line {line}, {column}: {wrong}"),
             None => write!(f, "line {line}: {wrong}"),
@@ -58,8 +58,8 @@ impl fmt::Display for TrafficFault {
     }
 }
 
-/// The kinds of faults of a traffic text.
-#[derive(Clone, Copy, Debug, Error)]
+/// The kinds of faults of a traffic text. Texts of cells are cut, and have no control characters.
+#[derive(Debug, Drop, Error)]
 pub enum Wrong {
     #[error("a header is missing")]
     NoHeader,
@@ -67,22 +67,22 @@ pub enum Wrong {
     SecondColumn,
     #[error("the column is missing")]
     NoColumn,
-    #[error("the row has {found} fields, and the header {wanted}")]
-    Fields { found: usize, wanted: usize },
-    #[error("0 to 65535 is wanted")]
-    PortNumber,
+    #[error("the number of cells is {found}, and that of the header {wanted}")]
+    Cells { found: usize, wanted: usize },
+    #[error("0 to 65535 is wanted, and {seen}")]
+    PortNumber { seen: String },
     #[error("the plan has no port {0}")]
     UnknownPort(u64),
     #[error("port {id} already has a row, line {first}")]
     SecondRow { id: u64, first: u64 },
-    #[error("1 to {PERIOD_LIMIT} is wanted")]
-    Time,
-    #[error("0 to {0} is wanted")]
-    Jitter(u64),
-    #[error("0 is wanted without a period")]
-    NoPeriod,
-    #[error("at most 64 bytes of text without control characters are wanted")]
-    Name,
+    #[error("1 to {PERIOD_LIMIT} is wanted, and {seen}")]
+    Time { seen: String },
+    #[error("0 to {most} is wanted, and {seen}")]
+    Jitter { most: u64, seen: String },
+    #[error("0 is wanted without a period, and {seen}")]
+    NoPeriod { seen: String },
+    #[error("at most 64 bytes of text without control characters are wanted, and {seen}")]
+    Name { seen: String },
 }
 
 /// Makes traffic without a text: no port has a name, a period or a deadline. Fails only if an allocation fails.
@@ -194,19 +194,22 @@ impl Reading<'_> {
     fn row(&mut self, alloc: Global, wanted: usize, row: &ByteRecord) -> Result<(), AllocError> {
         let found = row.len();
         if found != wanted {
-            return self.add(None, Wrong::Fields { found, wanted });
+            return self.add(None, Wrong::Cells { found, wanted });
         }
         let [port, name, period, jitter, deadline] = self.places.map(|place| field(row, place));
-        let name = read_name(alloc, bare(name))?;
+        let text = bare(name);
+        let name = read_name(alloc, text)?;
         if name.is_none() {
-            self.add(Some("name"), Wrong::Name)?;
+            let seen = seen(alloc, text)?;
+            self.add(Some("name"), Wrong::Name { seen })?;
         }
         let is_planned = !whole(period).is_empty();
-        let period = self.time(period, "period_us")?;
-        let jitter = self.jitter(jitter, period, is_planned)?;
-        let deadline = self.time(deadline, "deadline_us")?;
+        let period = self.time(alloc, period, "period_us")?;
+        let jitter = self.jitter(alloc, jitter, period, is_planned)?;
+        let deadline = self.time(alloc, deadline, "deadline_us")?;
         let Some(id) = number(whole(port), 65_535) else {
-            return self.add(Some("port"), Wrong::PortNumber);
+            let seen = seen(alloc, bare(port))?;
+            return self.add(Some("port"), Wrong::PortNumber { seen });
         };
         let mut ports = self.config.ports().iter();
         let place = ports.position(|port| port.id.0 as u64 == id);
@@ -231,35 +234,44 @@ impl Reading<'_> {
     /// a fault of the period any time.
     fn jitter(
         &mut self,
-        field: &[u8],
+        alloc: Global,
+        cell: &[u8],
         period: Option<u64>,
         is_planned: bool,
     ) -> Result<u64, AllocError> {
-        let field = whole(field);
-        if field.is_empty() {
+        let text = whole(cell);
+        if text.is_empty() {
             return Ok(0);
         }
-        let (most, wrong) = match period {
-            Some(period) => (period, Wrong::Jitter(period)),
-            None if is_planned => (PERIOD_LIMIT, Wrong::Jitter(PERIOD_LIMIT)),
-            None => (0, Wrong::NoPeriod),
-        };
-        let jitter = number(field, most);
+        let most = period.unwrap_or(if is_planned { PERIOD_LIMIT } else { 0 });
+        let jitter = number(text, most);
         if jitter.is_none() {
+            let seen = seen(alloc, bare(cell))?;
+            let wrong = if is_planned {
+                Wrong::Jitter { most, seen }
+            } else {
+                Wrong::NoPeriod { seen }
+            };
             self.add(Some("jitter_us"), wrong)?;
         }
         Ok(jitter.unwrap_or(0))
     }
 
     /// Reads a time, which an empty field leaves out.
-    fn time(&mut self, field: &[u8], column: &'static str) -> Result<Option<u64>, AllocError> {
-        let field = whole(field);
-        let time = match number(field, PERIOD_LIMIT) {
+    fn time(
+        &mut self,
+        alloc: Global,
+        cell: &[u8],
+        column: &'static str,
+    ) -> Result<Option<u64>, AllocError> {
+        let text = whole(cell);
+        let time = match number(text, PERIOD_LIMIT) {
             Some(0) => None,
             time => time,
         };
-        if time.is_none() && !field.is_empty() {
-            self.add(Some(column), Wrong::Time)?;
+        if time.is_none() && !text.is_empty() {
+            let seen = seen(alloc, bare(cell))?;
+            self.add(Some(column), Wrong::Time { seen })?;
         }
         Ok(time)
     }
