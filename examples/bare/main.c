@@ -1,7 +1,7 @@
 /* An end system without a C library: one frame out of a table, with memory from a pool of fixed size.
 
        afdx_bench compile demo.toml --c table.c
-       cc -O2 -ffreestanding -fno-tree-loop-distribute-patterns -nostdlib -static main.c table.c -lafdx_core -lgcc
+       cc -O2 -ffreestanding -fno-tree-loop-distribute-patterns -nostdlib -static -Wl,--gc-sections main.c table.c -lafdx_core -lgcc
 
    The library takes all memory while it opens an end system, by the three calls below, which a partition replaces by its own.
    Output is by system calls of Linux here, and the start that of a static program on x86-64. */
