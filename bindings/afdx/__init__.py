@@ -44,7 +44,7 @@ __all__ = [
     "File", "Finding", "Poll", "Port", "Released", "explain", "judge", "library_version", "memory",
 ]
 __all__ += errors.__all__
-__version__ = "2.0.0"
+__version__ = "2.1.0"
 
 A, B = 0, 1
 GREATEST_FRAME, MOST_FRAMES = 1514, 64

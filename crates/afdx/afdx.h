@@ -44,9 +44,9 @@ extern "C" {
 
 /** The version of this header and of the library installed with it. The first number changes with incompatible
    changes, and libafdx.so.2 is named by it; the second with calls, structs or numbers that are added. */
-#define AFDX_VERSION "2.0.0"
+#define AFDX_VERSION "2.1.0"
 #define AFDX_VERSION_MAJOR 2 /**< its first number */
-#define AFDX_VERSION_MINOR 0 /**< its second number */
+#define AFDX_VERSION_MINOR 1 /**< its second number */
 #define AFDX_VERSION_PATCH 0 /**< its third number */
 /** All three as one number, as afdx_version_number returns those of the library. */
 #define AFDX_VERSION_NUMBER (10000 * AFDX_VERSION_MAJOR + 100 * AFDX_VERSION_MINOR + AFDX_VERSION_PATCH)

@@ -169,6 +169,6 @@ int main(void) {
     check_long_run();
     check_lines();
     check_sizes();
-    CHECK(afdx_version_number() == AFDX_VERSION_NUMBER && AFDX_VERSION_NUMBER == 20000);
+    CHECK(afdx_version_number() == AFDX_VERSION_NUMBER && AFDX_VERSION_NUMBER == 20100);
     return end_of_checks();
 }

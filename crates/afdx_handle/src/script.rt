@@ -8,7 +8,7 @@ use crate::answer::{DONE, SMALL_BUFFER, put_at};
 use script_text::Line;
 
 /// The version of the library: 10,000 times its first number, 100 times its second, and its third.
-pub const VERSION: u32 = 20_000;
+pub const VERSION: u32 = 20_100;
 
 /// The meaning of a line: 0 nothing, 1 `send`, 2 `at` or 3 `close`; the sub-VL of a close; the port of a send, or the
 /// virtual link of a close; the time of an `at`; and the number of bytes in the message of a send.

@@ -10,7 +10,7 @@ use afdx_plan::Config;
 use std::io::{self, Write};
 
 /// The program's version, which is the library's: `AFDX_VERSION` in `afdx.h`.
-pub const VERSION: &str = "2.0.0";
+pub const VERSION: &str = "2.1.0";
 
 /// A plan, and the SHA-256 digest of its text.
 #[derive(Drop)]
