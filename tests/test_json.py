@@ -277,7 +277,7 @@ def judge(seed):
     networks = ", ".join(f"{row['network']} is interface {row['interface']} of capture {row['capture']}" for row in sorted(it["networks"], key=lambda row: row["network"]))
     faults += [] if not networks or f"networks: {networks}" in lines else [networks]
     head = next(place for place, line in enumerate(lines) if line.startswith(" link net"))
-    rows = rows_of(it["plans"][0]["links"], *columns("link net frames bytes messages bag_ns least_gap_ns lead_ns"))
+    rows = rows_of(it["plans"][0]["links"], *columns("link net frames bytes messages bag_ns least_gap_ns lead_ns greatest_gap_ns mean_gap_ns mean_lead_ns used_percent.2"))
     return faults + ([] if rows == [line.split() for line in lines[head + 1 :]] else [f"{rows} for {lines[head + 1:]}"])
 
 

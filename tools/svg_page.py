@@ -215,6 +215,8 @@ class Drawn:
                     self.y += 18 if is_below else 0
                     at = (MARGIN, INNER) if is_below else (x + 16, size - 16)
                     self.bar(cell, *at, self.y - 10, 0 if row is rows[0] else decades)
+                    if is_below and cell.text():
+                        self.picture.text(MARGIN, self.y, cell.text(), "quiet bold", 12)
             self.picture.line(MARGIN, self.y + 7, WIDTH - MARGIN, self.y + 7, "rule")
             self.y += 22
         self.y -= 8
@@ -239,6 +241,9 @@ class Drawn:
         cells = [wrapped(it.text(), 13, size - 12) if is_head else [it.text()] for it, (_, size) in pairs]
         self.y += 15 * max(map(len, cells)) + 2 if is_head else 0
         for k, (cell, lines, (x, size)) in enumerate(zip(row, cells, columns, strict=True)):
+            if not size:
+                # (a bar that is drawn below)
+                continue
             is_left = k == 0 or "name" in cell.kind
             kinds = ["quiet bold" if is_head else cell.kind.replace("name", ""), "" if is_left else "end"]
             for up, line in enumerate(reversed(lines)):

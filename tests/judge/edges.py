@@ -53,15 +53,16 @@ def page(seed: int) -> list[str]:
     if told != (*wanted[:2], ""):
         return [f"page {seed}: {told} for {wanted[:2]}"]
     lines = told[1].splitlines()
-    cells = [row.split() for row in told[1].partition("lead-ns\n")[2].splitlines()]
+    cells = [row.split() for row in told[1].partition("used-%\n")[2].splitlines()]
     text, scale, number = page_in(name), 1000 * options.skew, recording.plan["end_system"]["id"]
     shown, title, rows, bars = picture.Page(text), f"Recording of end system {number}", [], []
-    for vl, net, frames, _, _, bag, least, lead in cells:
+    for vl, net, frames, _, _, bag, least, lead, greatest, mean, mean_lead, used in cells:
         is_short = least.isdigit() and int(least) < int(bag) - 1000 * jitter
         rows.append([(vl, ""), (net, ""), (frames, "" if int(frames) else "over"), (f"{int(bag) // 10**6}\u00a0ms", "")])
         rows[-1] += [(micros(least), "over" if is_short else ""), (micros(lead), "")]
+        rows[-1] += [*picture.plain(micros(greatest), micros(mean), micros(mean_lead), "\u2013" if used == "-" else f"{used}\u00a0%")]
         bars.append([bar(2 * int(bag), int(bag), least), bar(scale, scale, lead)])
-    head = ["link", "network", "frames", "BAG", "least gap", "lead", "gap", "lead"]
+    head = ["link", "network", "frames", "BAG", "least gap", "lead", "gap", "lead", "greatest gap", "mean gap", "mean lead", "used"]
     faults = [*picture.table_faults(shown, f"links-{number}", head, rows, bars)]
     titles = [re.sub("<.*?>", "", it) for it in re.findall(r"<(?:title|h1)>.*</(?:title|h1)>", text)]
     faults += [] if titles == [title, title] else [f"{titles}"]
@@ -147,8 +148,11 @@ def long() -> list[str]:
     wanted = "".join(f"{150_001 + k} {net} 75.000000000 vl 1 Number: seen 31, wanted 30\n" for k, net in enumerate("AB"))
     wanted += "2 findings: Number 2\ncapture 1: 200000 packets\n"
     wanted += "networks: A is interface 0 of capture 1, B is interface 1 of capture 1\n"
-    wanted += " link net      frames         bytes    messages      bag-ns   least-gap-ns     lead-ns\n"
-    wanted += "".join(f"    1   {net}      100000       6000000      100000     1000000        1000000           0\n" for net in "AB")
+    # (frames of 60 bytes take 84 on the wire, and those of Lmax 1,538, of which 100,000 have their place)
+    wanted += verdict.HEAD + "".join(
+        f"    1   {net}      100000       6000000      100000     1000000        1000000           0"
+        f"          1000000        1000000             0      5.47\n" for net in "AB"
+    )
     told = run_judge(trying.DEMO, [written(packets, PLAIN, random.Random(0))], Options())
     return [] if told == (1, wanted, "") else [f"{told} for {wanted}"]
 

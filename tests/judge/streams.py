@@ -92,7 +92,9 @@ class Stream:
 
     def __init__(self, link: Table, ports: list[Table], options: Options) -> None:
         self.link, self.ports, self.options = link, [port for port in ports if port["vl"] == link["id"]], options
-        self.number, self.at, self.frames, self.bytes, self.messages, self.least = None, None, 0, 0, 0, None
+        self.number, self.at, self.frames, self.bytes, self.messages = None, None, 0, 0, 0
+        # The times in nanoseconds from each frame to the next one, 0 if that one's is earlier.
+        self.gaps: list[int] = []
         # The least time at which the last frame may have been released, which may be before time 0.
         self.release: int | None = None
         self.joining = {sub: UNKNOWN if options.late else Joining(ANY if options.arinc else sub, 0) for sub in range(4)}
@@ -151,7 +153,7 @@ class Stream:
             self.release = jittered
             return []
         due, gap = self.release + 10**6 * self.link["bag_ms"], max(0, at - self.at)
-        self.least = gap if self.least is None else min(self.least, gap)
+        self.gaps.append(gap)
         self.release = min(at, max(due, jittered))
         return [("Early", "", differ(gap, max(0, due - self.at)))] if due > at else []
 

@@ -11,6 +11,8 @@ KINDS = "Frame Source Link Network Size Number Early Port Fragment Message Turn 
 BYTE_11 = {"A": 0x20, "B": 0x40}
 PRINTED = 100
 FOREIGN_ROWS = 64
+HEAD = " link net      frames         bytes    messages      bag-ns   least-gap-ns     lead-ns"
+HEAD += "  greatest-gap-ns    mean-gap-ns  mean-lead-ns    used-%\n"
 RECORD = "; record one interface, as tcpdump -i eth1 -w FILE does"
 
 
@@ -88,7 +90,8 @@ class Judge:
         self.options, self.end_system, self.links = options, plan["end_system"]["id"], {it["id"]: it for it in plan["vl"]}
         self.streams = {(vl, net): Stream(link, plan["port"], options) for vl, link in self.links.items() for net in self.nets(link)}
         self.waiting: dict[int, list[Waiting]] = {vl: [] for vl in self.links}
-        self.lead: dict[int, int] = {}
+        # The times between twins, by the links.
+        self.leads: dict[int, list[int]] = {vl: [] for vl in self.links}
         # The times of the first and the last packet of each network that has any.
         self.ends: dict[str, tuple[int, int]] = {}
         self.is_told, self.findings = False, []
@@ -200,7 +203,7 @@ class Judge:
         for place, it in enumerate(self.waiting[vl]):
             if it.network != arrived.network and it.frame[-1] == arrived.frame[-1] and self.near(it.at, arrived.at):
                 del self.waiting[vl][place]
-                self.lead[vl] = max(self.lead.get(vl, 0), abs(arrived.at - it.at))
+                self.leads[vl].append(abs(arrived.at - it.at))
                 one, other = arrived.frame, it.frame
                 if one[:11] + one[12:] != other[:11] + other[12:]:
                     both = range(min(len(one), len(other)))
@@ -231,9 +234,23 @@ def read_line(place: int, reader: Reader, is_only: bool) -> str:
 
 def row(judge: Judge, vl: int, net: str) -> str:
     """The row of a link on a network."""
-    it = judge.streams[vl, net]
-    least, lead = ("-" if value is None else str(value) for value in (it.least, judge.lead.get(vl)))
-    return f"{vl:>5}{net:>4}{it.frames:>12}{it.bytes:>14}{it.messages:>12}{it.link['bag_ms'] * 10**6:>12}{least:>15}{lead:>12}\n"
+    it, leads = judge.streams[vl, net], judge.leads[vl]
+    bag = it.link["bag_ms"] * 10**6
+    least, greatest, mean = ("-", "-", "-") if not it.gaps else (min(it.gaps), max(it.gaps), sum(it.gaps) // len(it.gaps))
+    lead, mean_lead = ("-", "-") if not leads else (max(leads), sum(leads) // len(leads))
+    text = f"{vl:>5}{net:>4}{it.frames:>12}{it.bytes:>14}{it.messages:>12}{bag:>12}{least:>15}{lead:>12}"
+    return text + f"{greatest:>17}{mean:>15}{mean_lead:>14}{used(it, judge.ends.get(net)):>10}\n"
+
+
+def used(stream: Stream, ends: tuple[int, int] | None) -> str:
+    """The share of its bandwidth that a link used while its network was recorded, in percent, rounded up: what its frames took on
+    the wire, of what frames of Lmax take that are sent at the first packet and then in each BAG up to the last."""
+    if ends is None:
+        return "-"
+    sent = stream.bytes + (4 + 20) * stream.frames
+    most = (stream.link["lmax"] + 20) * (1 + (ends[1] - ends[0]) // (stream.link["bag_ms"] * 10**6))
+    whole, part = divmod(-(-10_000 * sent // most), 100)
+    return f"{whole}.{part:02}"
 
 
 def nothing_judged(place: int, reader: Reader) -> str:
@@ -319,7 +336,7 @@ class Tap:
         text += f"foreign: {self.foreign[None]} of others\n" if None in self.foreign else ""
         for judge in self.judges:
             text += f"end system {judge.end_system}\n" if len(self.judges) > 1 else ""
-            text += " link net      frames         bytes    messages      bag-ns   least-gap-ns     lead-ns\n"
+            text += HEAD
             text += "".join(row(judge, vl, net) for vl, net in judge.streams)
         return text
 

@@ -2,6 +2,7 @@
 //! frames, silent links, and the rows of links.
 use crate::findings::{FindingLine, Tally, mark_of, network_name};
 use crate::foreign::Foreign;
+use crate::link_row::write_table;
 use crate::stop::Stop;
 use afdx_frame::Net;
 use afdx_frame::net::{INTERFACE_A, INTERFACE_B};
@@ -9,7 +10,6 @@ use afdx_plan::{Config, LinkPlan};
 use capture::Packet;
 use judge::{Figures, Finding, FindingKind, Judge, Options};
 use plan_analysis::carries;
-use plan_report::Cell;
 use std::alloc::{AllocError, Global};
 use std::io::{self, Write};
 use tap::Tap;
@@ -331,29 +331,6 @@ fn of_no_network(net: Net, number: u64, packet: &Packet<'_>, byte: u8) -> Findin
         seen: byte as u64,
         wanted: 0,
     }
-}
-
-/// Writes the rows of a plan, with a header.
-fn write_table<W: Write>(writer: &mut W, judge: &Judge) -> io::Result<()> {
-    writer.write_all(
-        b" link net      frames         bytes    messages      bag-ns   least-gap-ns     lead-ns\n",
-    )?;
-    for (place, link) in judge.config().links().iter().enumerate() {
-        for net in [Net::A, Net::B] {
-            if let Some(figures) = figures_of(judge, place, link, net) {
-                let (id, network) = (link.id.0, network_name(net));
-                let (frames, bytes, messages) = (figures.frames, figures.bytes, figures.messages);
-                let bag = link.bag.ms().saturating_mul(1_000_000);
-                let least = Cell(figures.least_gap, "-");
-                let lead = Cell(judge.lead(place), "-");
-                writeln!(
-                    writer,
-                    "{id:>5}{network:>4}{frames:>12}{bytes:>14}{messages:>12}{bag:>12}{least:>15}{lead:>12}"
-                )?;
-            }
-        }
-    }
-    Ok(())
 }
 
 /// Returns whether a network carries links of a plan, and none of them has a frame on it.

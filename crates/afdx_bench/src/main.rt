@@ -13,6 +13,7 @@ mod foreign;
 mod hearing;
 mod interface;
 mod judging;
+mod link_row;
 mod network;
 mod page;
 mod recorded;

@@ -1,8 +1,8 @@
 //! The page of a recording: one HTML file, which loads nothing.
 use crate::findings::{FindingLine, network_name};
-use crate::hearing::{Hearing, figures_of};
+use crate::hearing::Hearing;
+use crate::link_row::LinkRow;
 use afdx_frame::Net;
-use afdx_plan::LinkPlan;
 use bench_words::Case;
 use judge::Judge;
 use plan_report::{Escaped, Parts, write_head};
@@ -150,19 +150,12 @@ fn write_links<W: Write>(writer: &mut W, judge: &Judge, case: &Case) -> io::Resu
         writer,
         "<h2>Links of end system {id}</h2>\n<p>The least gap of each link, whose mark is its BAG, and the greatest time \
         between a frame and its twin, whose mark is the skew.</p>\n<table id=\"links-{id}\" class=\"judged\">\n<thead><tr><th>link\
-        <th>network<th>frames<th>BAG<th>least gap<th>lead<th class=\"bar\">gap<th class=\"bar\">lead\n<tbody>\n"
+        <th>network<th>frames<th>BAG<th>least gap<th>lead<th class=\"bar\">gap<th class=\"bar\">lead<th>greatest gap<th>mean gap\
+        <th>mean lead<th>used\n<tbody>\n"
     )?;
     for (place, link) in judge.config().links().iter().enumerate() {
         for net in [Net::A, Net::B] {
-            if let Some(figures) = figures_of(judge, place, link, net) {
-                let gap = figures.least_gap;
-                let row = Row {
-                    link,
-                    net,
-                    frames: figures.frames,
-                    gap,
-                    lead: judge.lead(place),
-                };
+            if let Some(row) = LinkRow::of(judge, place, link, net) {
                 write_link(writer, &row, case)?;
             }
         }
@@ -170,42 +163,43 @@ fn write_links<W: Write>(writer: &mut W, judge: &Judge, case: &Case) -> io::Resu
     writer.write_all(b"</table>\n")
 }
 
-/// A link's figures on a network.
-#[derive(Clone, Copy)]
-struct Row<'a> {
-    link: &'a LinkPlan,
-    net: Net,
-    frames: u64,
-    gap: Option<u128>,
-    lead: Option<u128>,
-}
-
 /// Writes the row of a link on a network. A gap that is less than the BAG by more than the jitter has a class.
-fn write_link<W: Write>(writer: &mut W, row: &Row<'_>, case: &Case) -> io::Result<()> {
+fn write_link<W: Write>(writer: &mut W, row: &LinkRow, case: &Case) -> io::Result<()> {
     let (id, network, bag, frames) = (
         row.link.id.0,
         network_name(row.net),
         row.link.bag.ms(),
-        row.frames,
+        row.figures.frames,
     );
     let least = row.link.bag.micros().saturating_sub(case.jitter);
-    let is_short = match row.gap {
+    let gap = row.figures.least_gap;
+    let is_short = match gap {
         Some(gap) => gap < MICRO.saturating_mul(least as u128),
         None => false,
     };
     let over = if is_short { " class=\"over\"" } else { "" };
     let silent = if frames == 0 { " class=\"over\"" } else { "" };
-    let (gap, lead) = (Micros(row.gap), Micros(row.lead));
+    let (least, lead) = (Micros(gap), Micros(row.lead));
     write!(
         writer,
-        "<tr><td>{id}<td>{network}<td{silent}>{frames}<td>{bag}\u{a0}ms<td{over}>{gap}<td>{lead}<td class=\"bar\">"
+        "<tr><td>{id}<td>{network}<td{silent}>{frames}<td>{bag}\u{a0}ms<td{over}>{least}<td>{lead}<td class=\"bar\">"
     )?;
-    let bag = row.link.bag.micros().saturating_mul(1_000);
-    write_bar(writer, bag.saturating_mul(2), bag, row.gap)?;
+    write_bar(writer, row.bag.saturating_mul(2), row.bag, gap)?;
     writer.write_all(b"<td class=\"bar\">")?;
     let skew = case.skew.saturating_mul(1_000);
     write_bar(writer, skew, skew, row.lead)?;
-    writer.write_all(b"\n")
+    write_means(writer, row)
+}
+
+/// Writes the last cells of a link's row.
+fn write_means<W: Write>(writer: &mut W, row: &LinkRow) -> io::Result<()> {
+    let (greatest, mean) = (Micros(row.figures.greatest_gap), Micros(row.mean_gap));
+    let lead = Micros(row.mean_lead);
+    write!(writer, "<td>{greatest}<td>{mean}<td>{lead}<td>")?;
+    match row.used {
+        Some(used) => writeln!(writer, "{used}\u{a0}%"),
+        None => writeln!(writer, "–"),
+    }
 }
 
 /// Writes the bar of a time in nanoseconds. It is at most the whole scale, and empty if there is no time.

@@ -1,11 +1,13 @@
 //! The document of a judged recording.
 use crate::findings::{kind_name, network_name};
 use crate::foreign::Foreign;
-use crate::hearing::{Hearing, figures_of};
+use crate::hearing::Hearing;
+use crate::link_row::LinkRow;
 use crate::source::Source;
 use afdx_frame::Net;
 use bench_json::{
     CaptureRow, FindingRow, ForeignRow, Judged, JudgedLink, JudgedPlan, KindRow, TakenRow,
+    hundredths,
 };
 use bench_words::Case;
 use judge::{Finding, FindingKind, Judge};
@@ -138,19 +140,28 @@ fn links_of(alloc: Global, judge: &Judge) -> Result<Vec<JudgedLink>, AllocError>
     let mut links = Vec::new(alloc);
     for (place, link) in judge.config().links().iter().enumerate() {
         for net in [Net::A, Net::B] {
-            if let Some(figures) = figures_of(judge, place, link, net) {
-                links.push(JudgedLink {
-                    link: link.id.0,
-                    net: network_name(net),
-                    frames: figures.frames,
-                    bytes: figures.bytes,
-                    messages: figures.messages,
-                    bag_ns: link.bag.ms().saturating_mul(1_000_000),
-                    least_gap_ns: figures.least_gap,
-                    lead_ns: judge.lead(place),
-                })?;
+            if let Some(row) = LinkRow::of(judge, place, link, net) {
+                links.push(judged_link(&row))?;
             }
         }
     }
     Ok(links)
+}
+
+fn judged_link(row: &LinkRow) -> JudgedLink {
+    let figures = &row.figures;
+    JudgedLink {
+        link: row.link.id.0,
+        net: network_name(row.net),
+        frames: figures.frames,
+        bytes: figures.bytes,
+        messages: figures.messages,
+        bag_ns: row.bag,
+        least_gap_ns: figures.least_gap,
+        lead_ns: row.lead,
+        greatest_gap_ns: figures.greatest_gap,
+        mean_gap_ns: row.mean_gap,
+        mean_lead_ns: row.mean_lead,
+        used_percent: row.used.map(|share| hundredths(share.0)),
+    }
 }

@@ -83,6 +83,11 @@ pub struct JudgedLink {
     pub bag_ns: u64,
     pub least_gap_ns: Option<u128>,
     pub lead_ns: Option<u128>,
+    pub greatest_gap_ns: Option<u128>,
+    pub mean_gap_ns: Option<u128>,
+    pub mean_lead_ns: Option<u128>,
+    // the share of the link's bandwidth
+    pub used_percent: Option<f64>,
 }
 
 /// A recording, and the version of the layout.

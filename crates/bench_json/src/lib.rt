@@ -12,7 +12,7 @@ pub use judged::{
     CaptureRow, FindingRow, ForeignRow, Judged, JudgedLink, JudgedPlan, KindRow, TakenRow,
     judge_document,
 };
-pub use reported::{ReportedPlan, report_document, reported_plan};
+pub use reported::{ReportedPlan, hundredths, report_document, reported_plan};
 use serde::Serialize;
 use std::alloc::{AllocError, Global};
 

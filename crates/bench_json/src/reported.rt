@@ -194,7 +194,7 @@ fn thousandths(parts: u64) -> f64 {
 }
 
 /// Converts hundredths.
-fn hundredths(parts: u64) -> f64 {
+pub fn hundredths(parts: u64) -> f64 {
     nearest_u64_to_f64(parts) / 100.0
 }
 

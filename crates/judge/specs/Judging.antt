@@ -9,8 +9,8 @@ use Rattle.judge.specs.Joining.{port_of}
 use Rattle.judge.specs.Lines.{new_line, line_after, verdict, sub_in, sub_of}
 use Rattle.judge.specs.Rules.{frame_in, place_of, size_deviation}
 use Rattle.judge.specs.Times.{no_times, times_with}
-use Rattle.judge.specs.Twins.{found_missing, left_waiting, twin_deviation, pairing_with, found_at_end}
-use Rattle.judge.specs.Types.{Arrived, Fields, Figures, Finding, FindingKind, Line, Link, LinkPlan, Measure, Nearness, Net, Options, Plan, PortPlan, Recorded, Refused, Setting, Tag, Times, Verdict, VlId}
+use Rattle.judge.specs.Twins.{found_missing, left_waiting, twin_deviation, no_pairing, pairing_with, found_at_end}
+use Rattle.judge.specs.Types.{Arrived, Fields, Figures, Finding, FindingKind, Line, Link, LinkPlan, Measure, Nearness, Net, Options, Plan, PortPlan, Recorded, Refused, Setting, Tag, Times, Total, Verdict, VlId}
 use Rattle.judge.specs.declared.finding.FindingKind.TheVariants.{Frame}
 use Rattle.afdx_frame.specs.declared.layout.Layout.TheVariants.{Time, Recorded as WithCheck}
 
@@ -20,7 +20,7 @@ abbrev pub new_link : Bool → Bool → Link
 new_link late arinc = record {
   a = new_line late arinc;
   b = new_line late arinc;
-  twins = record { waiting = []; lead = None };
+  twins = no_pairing;
 }
 
 abbrev pub link_at : List Link → ℕ → Link
@@ -40,6 +40,9 @@ figures_on net link = option_map (λ (link : Link). (line_on net link).figures) 
 
 abbrev pub lead_of : Option Link → Option ℕ
 lead_of link = option_and_then (λ (link : Link). link.twins.lead) link
+
+abbrev pub leads_of : Option Link → Option Total
+leads_of link = option_map (λ (link : Link). link.twins.leads) link
 
 -- the findings of a line, in the order of their kinds
 unfoldable pub with_verdict : Tag → VlId → Verdict → List Finding → List Finding

@@ -1,6 +1,7 @@
 pub mod CheckSequence
 pub mod Deviations
 pub mod Fields
+pub mod Figures
 pub mod Joining
 pub mod Judging
 pub mod Lines

@@ -3,6 +3,7 @@ use Rattle.std.specs.Prelude.{ℕ, ◌+◌, ◌-◌, ◌%◌, ◌^◌, nat_eq, n
 use Rattle.std.specs.Option.{is_some, option_map_or}
 use Rattle.judge.specs.Deviations.{deviation, first_of}
 use Rattle.judge.specs.Fields.{ends_message}
+use Rattle.judge.specs.Figures.{figures_after, no_figures}
 use Rattle.judge.specs.Joining.{fragment_deviation, head_now, end_deviation, joined, goes_on, next_of}
 use Rattle.judge.specs.Types.{Arrived, Deviation, Fields, Figures, Joining, Last, Line, Measure, PortPlan, Sub, Verdict}
 use Rattle.judge.specs.declared.finding.FindingKind.TheVariants.{Number, Early, Port, Turn}
@@ -21,7 +22,7 @@ new_sub late arinc sub = record {
 abbrev pub new_line : Bool → Bool → Line
 new_line late arinc = record {
   last = None;
-  figures = record { frames = 0; bytes = 0; messages = 0; least_gap = None };
+  figures = no_figures;
   subs = new_sub late arinc 0 ∷ new_sub late arinc 1 ∷ new_sub late arinc 2 ∷ new_sub late arinc 3 ∷ [];
 }
 
@@ -143,22 +144,9 @@ sub_of measure port fields line =
     let numbered = after_number (number_deviation measure.late fields.number line) line in
     if measure.arinc then sub_shown port fields numbered.subs else sub_in fields
 
--- a count stops at 2^64 - 1
-abbrev pub counted : ℕ → ℕ → ℕ
-counted count more = min (count + more) (2 ^ 64 - 1)
-
-abbrev pub least_of : Option ℕ → Option ℕ → Option ℕ
-least_of None b = b
-least_of (Some a) None = Some a
-least_of (Some a) (Some b) = Some (if nat_lt b a then b else a)
-
 abbrev pub figures_with : Arrived → Line → Figures
-figures_with arrived line = record {
-  frames = counted line.figures.frames 1;
-  bytes = counted line.figures.bytes arrived.len;
-  messages = counted line.figures.messages (if ends_message arrived.fields then 1 else 0);
-  least_gap = least_of line.figures.least_gap (gap_since arrived.at line.last);
-}
+figures_with arrived line =
+    figures_after arrived.len (ends_message arrived.fields) (gap_since arrived.at line.last) line.figures
 
 -- after a piece that isn't the next one nothing is known of the message
 abbrev pub joining_after : Bool → Option Deviation → Fields → Option PortPlan → Joining → Joining

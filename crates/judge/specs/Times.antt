@@ -1,5 +1,5 @@
 -- The times from which and up to which each network was recorded.
-use Rattle.std.specs.Prelude.{ℕ, nat_lt, if◌then◌else◌, Option, Some, None}
+use Rattle.std.specs.Prelude.{ℕ, ◌-◌, nat_lt, if◌then◌else◌, option_map, Option, Some, None}
 use Rattle.afdx_frame.specs.declared.net.Net.TheVariants.{A, B}
 use Rattle.judge.specs.Types.{Net, Span, Times}
 
@@ -19,6 +19,15 @@ span_with at (Some span) = record {
 abbrev pub times_with : Net → ℕ → Times → Times
 times_with A at times = record times { a = Some (span_with at times.a) }
 times_with B at times = record times { b = Some (span_with at times.b) }
+
+-- the times of a network
+abbrev pub own_span : Net → Times → Option Span
+own_span A times = times.a
+own_span B times = times.b
+
+-- the time from the earliest packet of a network to the latest
+abbrev pub recorded_for : Net → Times → Option ℕ
+recorded_for net times = option_map (λ (span : Span). span.latest - span.earliest) (own_span net times)
 
 -- the times of the network that isn't this one
 abbrev pub other_span : Net → Times → Option Span

@@ -4,6 +4,7 @@ use Rattle.std.specs.Option.{option_map_or, option_or}
 use Rattle.std.specs.List.{position_or_len}
 use Rattle.afdx_frame.specs.declared.net.Net.TheVariants.{A, B}
 use Rattle.judge.specs.Deviations.{deviation, finding_of}
+use Rattle.judge.specs.Figures.{greatest_of, no_times, total_with}
 use Rattle.judge.specs.Waiting.{Wait, Pairing}
 use Rattle.judge.specs.Times.{other_span}
 use Rattle.judge.specs.Types.{Deviation, Finding, Nearness, Net, Span, Tag, VlId}
@@ -94,15 +95,16 @@ unfoldable pub twin_deviation : Nearness → Tag → ℕ → List ℕ → Pairin
 twin_deviation nearness tag number frame p =
     option_and_then (λ w. other_at w (twin_other w.bytes frame)) (find (is_twin nearness tag number) p.waiting)
 
-abbrev pub greatest_of : Option ℕ → ℕ → Option ℕ
-greatest_of a b = Some (option_map_or (λ a. if nat_lt a b then b else a) a b)
+abbrev pub no_pairing : Pairing
+no_pairing = record { waiting = []; lead = None; leads = no_times }
 
 abbrev pub met : Nearness → Tag → ℕ → List ℕ → Pairing → Option Wait → Pairing
 met nearness tag number frame p None =
     record p { waiting = p.waiting ++ record { tag = tag; number = number; bytes = frame } ∷ [] }
 met nearness tag number frame p (Some w) = record {
   waiting = remove p.waiting (position_or_len (is_twin nearness tag number) p.waiting);
-  lead = greatest_of p.lead (apart w.tag.at tag.at);
+  lead = greatest_of p.lead (Some (apart w.tag.at tag.at));
+  leads = total_with (apart w.tag.at tag.at) p.leads;
 }
 
 -- the waiting frames after a frame, which is paired with its twin, or waits

@@ -20,7 +20,8 @@ pub use Rattle.judge.specs.declared.joining.Head.{Head}
 pub use Rattle.judge.specs.declared.joining.Joining.{Joining}
 pub use Rattle.judge.specs.declared.line.Last.{Last}
 pub use Rattle.judge.specs.declared.line.Arrived.{Arrived}
-pub use Rattle.judge.specs.declared.line.Figures.{Figures}
+pub use Rattle.judge.specs.declared.figures.Figures.{Figures}
+pub use Rattle.judge.specs.declared.figures.Total.{Total}
 pub use Rattle.judge.specs.declared.line.Line.{Line}
 pub use Rattle.judge.specs.declared.line.Measure.{Measure}
 pub use Rattle.judge.specs.declared.line.Sub.{Sub}

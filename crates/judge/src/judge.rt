@@ -3,12 +3,14 @@ ghost use Rattle.std.specs.Prelude.{◌≡◌, ◌<◌, length, replicate, slice
 ghost use Rattle.capture.specs.Recording.{recorded};
 ghost use Rattle.judge.specs.Fields.{fields_of};
 ghost use Rattle.afdx_frame.specs.Layout.{IsReadable};
-ghost use Rattle.judge.specs.Judging.{Judging, Admitted, at_start, measure_of, nearness_of, setting_of, first_port, with_arrival, found_of_arrival, with_refusal, found_refusal, admitted, after_packet, found_with_packet, found_with_end, timed, found_left, is_with_check, new_link, figures_on, lead_of};
+ghost use Rattle.judge.specs.Judging.{Judging, Admitted, at_start, measure_of, nearness_of, setting_of, first_port, with_arrival, found_of_arrival, with_refusal, found_refusal, admitted, after_packet, found_with_packet, found_with_end, timed, found_left, is_with_check, new_link, figures_on, lead_of, leads_of};
+ghost use Rattle.judge.specs.Times.{recorded_for};
 
 use crate::fields::{Fields, fields_of};
+use crate::figures::{Figures, Total};
 use crate::finding::{Deviation, Finding, FindingKind, Tag, add};
 use crate::joining::port_of;
-use crate::line::{Figures, Measure, sub_in};
+use crate::line::{Measure, sub_in};
 use crate::link::{Link, Setting};
 use crate::rules::{Refused, frame_in, place_of};
 use crate::times::Times;
@@ -133,6 +135,21 @@ impl Judge {
         ensures { result ≡ lead_of (slice_get self.now.links link) }
     {
         self.links.get(link)?.twins.lead
+    }
+
+    /// Returns the times between frames of a link and their twins, by the link's place in the plan.
+    pub fn leads(&self, link: usize) -> Option<Total>
+        ensures { result ≡ leads_of (slice_get self.now.links link) }
+    {
+        Some(self.links.get(link)?.twins.leads)
+    }
+
+    /// Returns how long a network was recorded: the time in nanoseconds from the earliest of its packets that the judge
+    /// took to the latest. `None` if it took none with a time.
+    pub fn recorded_for(&self, net: Net) -> Option<u128>
+        ensures { result ≡ recorded_for net self.now.times }
+    {
+        self.times.recorded_for(net)
     }
 
     /// Judges a packet that was recorded on a network: appends the missing frames that it shows, and then its own

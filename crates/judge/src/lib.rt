@@ -3,6 +3,7 @@
 
 mod check_sequence;
 mod fields;
+mod figures;
 mod finding;
 mod joining;
 mod judge;
@@ -15,7 +16,7 @@ mod times;
 mod twins;
 
 pub use afdx_frame::Layout;
+pub use figures::{Figures, Total};
 pub use finding::{Ending, Finding, FindingKind, FragmentMisfit};
 pub use judge::{Judge, Options};
-pub use line::Figures;
 pub use merging::judge_packets;

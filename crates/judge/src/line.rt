@@ -1,9 +1,10 @@
 //! A link on a network: its numbers, its gaps and its sub-VLs.
 ghost use Rattle.std.specs.Prelude.{◌≡◌, ◌+◌, ◌≤◌, ◌<◌, ◌%◌, if◌then◌else◌, slice_set, true, false};
 ghost use Rattle.judge.specs.Fields.{AreSmall};
-ghost use Rattle.judge.specs.Lines.{new_sub, new_line, next_number, number_unless, number_deviation, gap_since, early_since, early_deviation, delay_after, unsettled_sub, unsettled, is_beside, line_counted, excused_sub, excused, turn_deviation, due_before, unknown_place, going_on, sub_at, other_sub, port_deviation, sub_in, sub_shown, sub_of, least_of, figures_with, joining_after, message_after, line_joined, line_with, line_after, verdict, after_number, after_turn};
+ghost use Rattle.judge.specs.Lines.{new_sub, new_line, next_number, number_unless, number_deviation, gap_since, early_since, early_deviation, delay_after, unsettled_sub, unsettled, is_beside, line_counted, excused_sub, excused, turn_deviation, due_before, unknown_place, going_on, sub_at, other_sub, port_deviation, sub_in, sub_shown, sub_of, figures_with, joining_after, message_after, line_joined, line_with, line_after, verdict, after_number, after_turn};
 
 use crate::fields::Fields;
+use crate::figures::Figures;
 use crate::finding::{Deviation, FindingKind};
 use crate::joining::{Joining, ended, port_deviation};
 use afdx_plan::PortPlan;
@@ -34,18 +35,6 @@ pub(crate) struct Sub {
     pub(crate) came: u64,
     /// The next piece of its message is due before a second frame of another sub-VL.
     pub(crate) due: bool,
-}
-
-/// Counts of a link's frames on a network, by the plan. A full count stays full.
-#[derive(Clone, Copy, Debug, Default, PartialEq, Eq)]
-pub struct Figures {
-    pub frames: u64,
-    /// The bytes of these frames, without their check sequences.
-    pub bytes: u64,
-    /// The frames that end a message.
-    pub messages: u64,
-    /// The least time in nanoseconds from a frame to the next one, 0 if the next one has an earlier time.
-    pub least_gap: Option<u128>,
 }
 
 /// A frame that came: its time in nanoseconds, its length and its fields.
@@ -115,17 +104,6 @@ fn delay_after(measure: &Measure, at: u128, last: Option<Last>) -> u128
     let left = left.saturating_sub(gap.saturating_sub(since));
     left.saturating_add(since.saturating_sub(gap))
         .min(measure.jitter)
-}
-
-/// Returns the lesser of two times. Either may be missing.
-fn least_of(a: Option<u128>, b: Option<u128>) -> Option<u128>
-    ensures { result ≡ least_of a b }
-{
-    match (a, b) {
-        (None, b) => b,
-        (Some(a), None) => Some(a),
-        (Some(a), Some(b)) => Some(if b < a { b } else { a }),
-    }
 }
 
 /// Returns true if a frame is no piece of a message: by ARINC 664 alone it may carry ICMP.
@@ -308,14 +286,9 @@ impl Line {
     fn figures_with(&self, arrived: &Arrived) -> Figures
         ensures { result ≡ figures_with arrived.now self.now }
     {
-        let figures = &self.figures;
-        let ended = if arrived.fields.ends_message() { 1 } else { 0 };
-        Figures {
-            frames: figures.frames.saturating_add(1),
-            bytes: figures.bytes.saturating_add(arrived.len),
-            messages: figures.messages.saturating_add(ended),
-            least_gap: least_of(figures.least_gap, gap_since(arrived.at, self.last)),
-        }
+        let gap = gap_since(arrived.at, self.last);
+        self.figures
+            .with(arrived.len, arrived.fields.ends_message(), gap)
     }
 
     /// Returns the line with the number and the time of one more frame.

@@ -1,6 +1,6 @@
 //! The times from which and up to which each network was recorded.
 ghost use Rattle.std.specs.Prelude.{◌≡◌};
-ghost use Rattle.judge.specs.Times.{no_times, span_with, times_with, other_span};
+ghost use Rattle.judge.specs.Times.{no_times, span_with, times_with, recorded_for, other_span};
 
 use afdx_frame::Net;
 
@@ -61,6 +61,17 @@ impl Times {
                 b: Some(span_with(at, b)),
             },
         }
+    }
+
+    /// Returns the time from the earliest packet of a network to the latest.
+    pub(crate) fn recorded_for(&self, net: Net) -> Option<u128>
+        ensures { result ≡ recorded_for net self.now }
+    {
+        let span = match net {
+            Net::A => self.a,
+            Net::B => self.b,
+        }?;
+        Some(span.latest.saturating_sub(span.earliest))
     }
 
     /// Returns the times of the other network than this one.

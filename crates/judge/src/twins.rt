@@ -1,8 +1,9 @@
 //! The frames of a link that one network has carried and the other hasn't yet.
 ghost use Rattle.std.specs.Prelude.{◌≡◌, ◌+◌, ◌^◌, ◌≤◌, ◌<◌, find, position, length, OnOk, IfOk, None, []};
 ghost use Rattle.judge.specs.Waiting.{Wait, Pairing};
-ghost use Rattle.judge.specs.Twins.{apart, is_near, is_heard_before, is_heard_after, is_late, same_net, is_passed, kept, is_lost, is_left, is_twin, missing, found_missing, left_waiting, first_other, twin_other, other_at, twin_deviation, greatest_of, pairing_with, found_at_end};
+ghost use Rattle.judge.specs.Twins.{apart, is_near, is_heard_before, is_heard_after, is_late, same_net, is_passed, kept, is_lost, is_left, is_twin, missing, no_pairing, found_missing, left_waiting, first_other, twin_other, other_at, twin_deviation, pairing_with, found_at_end};
 
+use crate::figures::{Total, greatest_of};
 use crate::finding::{Deviation, Finding, FindingKind, Tag};
 use crate::times::Times;
 use afdx_frame::Net;
@@ -37,6 +38,8 @@ pub(crate) struct Twins {
     waiting: Vec<Waiting>,
     /// The greatest time in nanoseconds between a frame and its twin.
     pub(crate) lead: Option<u128>,
+    /// All these times.
+    pub(crate) leads: Total,
 }
 
 impl Model for Twins {
@@ -44,7 +47,7 @@ impl Model for Twins {
 
     ghost Value = { Pairing };
 
-    ghost view = { λ t. record { waiting = t.waiting.items; lead = t.lead } };
+    ghost view = { λ t. record { waiting = t.waiting.items; lead = t.lead; leads = t.leads } };
 }
 
 /// The greatest time between twins, and the times of both networks' packets so far.
@@ -196,24 +199,15 @@ fn keep(waiting: &mut Vec<Waiting>, nearness: &Nearness, tag: &Tag, number: u8)
     waiting.retain(|w| !w.is_passed(nearness, tag, number));
 }
 
-/// Returns the greater of two times. The first may be missing.
-fn greatest_of(a: Option<u128>, b: u128) -> Option<u128>
-    ensures { result ≡ greatest_of a b }
-{
-    match a {
-        Some(a) if b <= a => Some(a),
-        _ => Some(b),
-    }
-}
-
 impl Twins {
     /// Creates the twins of a link without frames.
     pub(crate) fn new(alloc: Global) -> Twins
-        ensures { result ≡ record { waiting = []; lead = None } }
+        ensures { result ≡ no_pairing }
     {
         Twins {
             waiting: Vec::new(alloc),
             lead: None,
+            leads: Total::default(),
         }
     }
 
@@ -266,7 +260,9 @@ impl Twins {
         match self.place(nearness, tag, number) {
             Some(place) => {
                 let twin = self.waiting.remove(place);
-                self.lead = greatest_of(self.lead, apart(twin.tag.at, tag.at));
+                let lead = apart(twin.tag.at, tag.at);
+                self.lead = greatest_of(self.lead, Some(lead));
+                self.leads = self.leads.with(lead);
                 Ok(twin.deviation(frame))
             }
             None => {

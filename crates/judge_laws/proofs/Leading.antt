@@ -1,6 +1,6 @@
 -- The twins of a link on both networks, where both got all and the recording is in the order of time: the frames that wait
 -- are those by which one network leads, and each finds its twin.
-use Rattle.judge_laws.proofs.Names.{A, All, All-push, All-tail, All-weaker, AllZip, AllZip-long, all_zipped_more, B, Entry, List, Nearness, Net, None, Option, Pairing, Tag, Wait, ap, append_assoc, arith, cases_Bool, entry, eq-eqb, false, filter, find, get_or, get_or-append-add, get_or-append_seam, get_or-map, get_or_append_left, get_or_default, is_lost, is_near, is_passed, is_twin, kept, lag_of, left_waiting, length, length-append, length-map, length-twin, map, nat_tests, number_in, pairing_with, refl, same_net, side, sym, true, twin_number, ℕ, [], ◌*◌, ◌++◌, ◌+◌, ◌<◌, ◌∙◌, ◌∷◌, ◌≡◌, ◌≤◌, ◌⊎◌}
+use Rattle.judge_laws.proofs.Names.{A, All, All-push, All-tail, All-weaker, AllZip, AllZip-long, all_zipped_more, B, Entry, List, Nearness, Net, None, Option, Pairing, Tag, Total, Wait, ap, append_assoc, arith, cases_Bool, entry, eq-eqb, false, filter, find, get_or, get_or-append-add, get_or-append_seam, get_or-map, get_or_append_left, get_or_default, is_lost, is_near, is_passed, is_twin, kept, lag_of, left_waiting, length, length-append, length-map, length-twin, map, nat_tests, number_in, pairing_with, refl, same_net, side, sym, true, twin_number, ℕ, [], ◌*◌, ◌++◌, ◌+◌, ◌<◌, ◌∙◌, ◌∷◌, ◌≡◌, ◌≤◌, ◌⊎◌}
 use Rattle.judge_laws.proofs.Copies.{IsStream, far, lag_bound, own_at}
 use Rattle.judge_laws.proofs.Line.{IsDelayed}
 use Rattle.judge_laws.proofs.Reading.{zip_at}
@@ -117,10 +117,10 @@ no_twin origin jitter nearness tag number (o ∷ os) (w ∷ ws) zip =
     rw (zip.0.net, same_self tag.net) (no_twin origin jitter nearness tag number os ws zip.1)
 no_twin origin jitter nearness tag number ahead ws zip = absurd zip
 
-first_met : (nearness : Nearness) (tag : Tag) (number : ℕ) (frame : List ℕ) (lead : Option ℕ) (w : Wait) (ws : List Wait) → is_twin nearness tag number w ≡ true
-    → (pairing_with nearness tag number frame (record { waiting = w ∷ ws; lead = lead })).waiting ≡ ws
+first_met : (nearness : Nearness) (tag : Tag) (number : ℕ) (frame : List ℕ) (lead : Option ℕ) (leads : Total) (w : Wait) (ws : List Wait) → is_twin nearness tag number w ≡ true
+    → (pairing_with nearness tag number frame (record { waiting = w ∷ ws; lead = lead; leads = leads })).waiting ≡ ws
 unfolding pairing_with
-first_met nearness tag number frame lead w ws is = grind arith
+first_met nearness tag number frame lead leads w ws is = grind arith
 
 -- none that waits is passed, and a network leads on
 pub record LeadsOn (stream : List Entry) (origin : Net → ℕ) (jitter : ℕ) (nearness : Nearness) (tag : Tag) (e : Entry) (next : Net → List Entry)
@@ -229,7 +229,7 @@ module _ (stream : List Entry) (gap : ℕ) (origin : Net → ℕ) (jitter skew l
           still (λ i spare inside both. absurd (cc (both, same_other tag.net)))
 
       left : (pairing_with nearness tag number e.frame (left_waiting nearness tag number p)).waiting ≡ ws
-      left = rw (is, (stay_kept nearness tag number (w ∷ ws) stay).1) (first_met nearness tag number e.frame p.lead w ws twin)
+      left = rw (is, (stay_kept nearness tag number (w ∷ ws) stay).1) (first_met nearness tag number e.frame p.lead p.leads w ws twin)
   other_leads done ahead coming ws is whole leads lags waits past = absurd waits
 
   pub leads_on : (lead : Net) → IsLedBy stream origin jitter rest p.waiting lead → ArePast latest p.waiting → Leads

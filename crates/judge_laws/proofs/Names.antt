@@ -69,6 +69,7 @@ pub use Rattle.judge.specs.Twins.{apart, first_other, is_heard_after, is_heard_b
 unfoldable pub use Rattle.judge.specs.Twins.{found_at_end, found_missing, left_waiting, pairing_with, twin_deviation, twin_other}
 pub use Rattle.judge.specs.State.{Arrived, Fields, Flow, Head, Joining, Last, Line, Link, Measure, Nearness, PieceIn, Refused, Setting, Span, Sub, Tag, Times, Verdict}
 pub use Rattle.judge.specs.Waiting.{Pairing, Wait}
+pub use Rattle.judge.specs.declared.figures.Total.{Total}
 pub use Rattle.judge.specs.declared.finding.Finding.{Finding}
 pub use Rattle.judge.specs.declared.finding.FindingKind.TheVariants.{Missing}
 pub use Rattle.judge.specs.declared.finding.FragmentMisfit.{FragmentMisfit}
