@@ -46,7 +46,7 @@ def cases(count: int) -> Iterator[Case]:
         for kind in range(len(verdict.KINDS)):
             for seed in range(count):
                 test_judge.planted((kind, seed))
-        for task in (test_judge.late, test_judge.checked, test_judge.lost, test_judge.unmerged, test_judge.mixed, test_judge.damaged):
+        for task in (test_judge.late, test_judge.checked, test_judge.told, test_judge.lost, test_judge.unmerged, test_judge.mixed, test_judge.damaged):
             for seed in range(8 * count):
                 task(seed)
         test_judge.crowd()

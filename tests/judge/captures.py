@@ -5,7 +5,10 @@ import struct
 from typing import NamedTuple
 
 SECTION, INTERFACE, OBSOLETE, SIMPLE, STATISTICS, ENHANCED = 0x0A0D0D0A, 1, 2, 3, 5, 6
-NAME, RESOLUTION, OFFSET = 2, 9, 14
+# if_name, if_tsresol, if_fcslen and if_tsoffset.
+NAME, RESOLUTION, CHECK_LENGTH, OFFSET = 2, 9, 13, 14
+# Bit 26 of the last word of a pcap header: the four highest bits count words of check sequences.
+HAS_LENGTH = 1 << 26
 # The options that count lost packets: of an enhanced packet block, and the two of an interface statistics block.
 DROP_COUNT, IF_DROP, OS_DROP = 4, 5, 7
 GREATEST = 2**64 - 1
@@ -15,12 +18,14 @@ SECOND = 10**9
 
 
 class Packet(NamedTuple):
-    """A packet: its network, its time in nanoseconds, its length on the network, and the bytes that were captured."""
+    """A packet: its network, its time in nanoseconds, its length on the network, the bytes that were captured, and whether it ends
+    with its check sequence, if the capture says it."""
 
     network: str | None
     at: int | None
     original: int
     data: bytes
+    fcs: bool | None = None
 
 
 class End(NamedTuple):
@@ -66,7 +71,7 @@ class Interface:
         link, _, self.limit = struct.unpack_from(order + "HHI", body)
         if link != 1:
             raise Malformed("LinkType", link)
-        self.name, self.resolution, self.offset = None, 6, 0
+        self.name, self.resolution, self.offset, self.fcs = None, 6, 0, None
         self.dropped, self.told = 0, {IF_DROP: 0, OS_DROP: 0}
         at = 8
         while at < len(body):
@@ -86,6 +91,9 @@ class Interface:
         elif code == RESOLUTION:
             want(len(value) == 1, "BadOption")
             self.resolution = value[0]
+        elif code == CHECK_LENGTH:
+            want(len(value) == 1, "BadOption")
+            self.fcs = {0: False, 4: True, 32: True}.get(value[0])
         elif code == OFFSET:
             want(len(value) == 8, "BadOption")
             (self.offset,) = struct.unpack(order + "q", value)
@@ -109,6 +117,8 @@ class Reader:
         self.data, self.packets, self.interfaces = data, [], []
         # the interface of each packet, and the link type that ended the reading
         self.numbers, self.link = [], None
+        # whether the records of pcap end with their check sequences
+        self.fcs: bool | None = None
         # how many packets were lost in earlier sections, and in all
         self.lost_before = self.lost = 0
         self.step, self.at, self.order, self.unit = self.first, 0, "", 0
@@ -148,9 +158,11 @@ class Reader:
         self.order, self.unit = found[0]
         header = self.take(24)
         want(struct.unpack_from(self.order + "H", header, 4) == (2,), "Version")
-        link = struct.unpack_from(self.order + "I", header, 20)[0] & 0xFFFF
+        (word,) = struct.unpack_from(self.order + "I", header, 20)
+        link = word & 0xFFFF
         if link != 1:
             raise Malformed("LinkType", link)
+        self.fcs = {0: False, 2: True}.get(word >> 28) if word & HAS_LENGTH else None
         self.at, self.step = self.at + 24, self.record
         return None
 
@@ -160,7 +172,7 @@ class Reader:
         whole = self.take(16 + captured)
         seconds, part, _, original = struct.unpack_from(self.order + "IIII", whole)
         self.numbers.append(0)
-        self.packets.append(Packet("A", seconds * SECOND + part * self.unit, original, whole[16:]))
+        self.packets.append(Packet("A", seconds * SECOND + part * self.unit, original, whole[16:], self.fcs))
         self.at += len(whole)
 
     def block(self) -> None:
@@ -194,11 +206,11 @@ class Reader:
         elif kind == SIMPLE:
             want(len(body) >= 4, "Length")
             (original,) = struct.unpack_from(order + "I", body)
-            limit = self.known(0).limit
-            captured = min(original, limit) if limit else original
+            first = self.known(0)
+            captured = min(original, first.limit) if first.limit else original
             want(4 + captured <= len(body), "Captured")
             self.numbers.append(0)
-            self.packets.append(Packet(self.network(0), None, original, body[4 : 4 + captured]))
+            self.packets.append(Packet(self.network(0), None, original, body[4 : 4 + captured], first.fcs))
         elif kind == STATISTICS:
             number = struct.unpack_from(order + "I", body)[0] if len(body) >= 12 else len(self.interfaces)
             if number < len(self.interfaces):
@@ -211,7 +223,7 @@ class Reader:
             want(20 + captured <= len(body), "Captured")
             at = interface.time(high << 32 | low)
             self.numbers.append(number)
-            self.packets.append(Packet(self.network(number), at, original, body[20 : 20 + captured]))
+            self.packets.append(Packet(self.network(number), at, original, body[20 : 20 + captured], interface.fcs))
             interface.dropped += counts_in(order, body[20 + captured + -captured % 4 :]).get(DROP_COUNT, 0)
 
     def lost_so_far(self) -> int:
@@ -232,13 +244,14 @@ class Reader:
 
 class Form(NamedTuple):
     """How a capture is written: pcapng or pcap, its order of bytes, the units of its times, whether its interfaces have names,
-    and whether it has other blocks, options and further sections."""
+    whether it has other blocks, options and further sections, and what it says of the length of check sequences, by networks."""
 
     is_blocks: bool
     order: str
     resolution: int
     has_names: bool
     is_mixed: bool
+    fcs: dict[str, bytes] = {}
 
 
 PLAIN = Form(True, "<", 6, True, False)
@@ -270,6 +283,7 @@ def section(form: Form, names: str, rng: random.Random) -> bytes:
     text = block(form.order, SECTION, struct.pack(form.order + "IHHq", 0x1A2B3C4D, 1, rng.choice((0, 2)), -1) + more)
     for name in names:
         options = option(form.order, NAME, name.encode()) if form.has_names else b""
+        options += option(form.order, CHECK_LENGTH, form.fcs[name]) if name in form.fcs else b""
         if form.resolution != 6 or form.is_mixed:
             options += option(form.order, RESOLUTION, bytes([form.resolution]))
         options += option(form.order, 3, b"about it") if form.is_mixed else b""
@@ -283,7 +297,8 @@ def written(packets: list[Packet], form: Form, rng: random.Random, names: str = 
     order, scale = form.order, 10**form.resolution
     if not form.is_blocks and all(it.at is not None for it in packets):
         magic = {6: 0xA1B2C3D4, 9: 0xA1B23C4D}[form.resolution]
-        parts = [struct.pack(order + "IHHiIII", magic, 2, 4, 0, 0, 262_144, 1)]
+        told = [HAS_LENGTH | (it[0] // 2 & 15) << 28 for it in form.fcs.values() if it]
+        parts = [struct.pack(order + "IHHiIII", magic, 2, 4, 0, 0, 262_144, 1 | sum(told[:1]))]
         for it in packets:
             seconds, part = divmod(it.at * scale // SECOND, scale)
             parts.append(struct.pack(order + "IIII", seconds, part, len(it.data), it.original) + it.data)

@@ -133,6 +133,30 @@ def checked(seed: int) -> list[str]:
     return faults + faults_of(f"wrong {seed}", plan, [written(packets, PLAIN, rng)], Options(fcs=True), wanted)
 
 
+def told(seed: int) -> list[str]:
+    """What is wrong with the verdicts on captures that say of each network whether its frames end with their check sequences:
+    nothing is found if it is true. It may be wrong too, and a length that no check sequence has, or no length."""
+    rng = random.Random(f"told {seed}")
+    recording, has = recorded(rng), {net: rng.random() < 0.5 for net in "AB"}
+    sums = [zlib.crc32(it.data).to_bytes(4, "little") if has[it.network] else b"" for it in recording.packets]
+    packets = [it._replace(data=it.data + more, original=it.original + len(more)) for it, more in zip(recording.packets, sums, strict=True)]
+    plan, is_one = text_of(recording.plan, rng), rng.random() < 0.5
+
+    def captures(fcs: dict[str, bytes]) -> list[bytes]:
+        if is_one:
+            return [written(packets, random_form(rng, 2)._replace(fcs=fcs), rng)]
+        parts = [[it for it in packets if it.network == net] for net in "AB"]
+        return [written(part, random_form(rng, 1)._replace(fcs={net: fcs[net]} if net in fcs else {}), rng, net) for net, part in zip("AB", parts)]
+
+    # (in pcap the length counts words of 16 bits, and 32 isn't one)
+    true = {net: rng.choice((b"\4", b"\x20") if is_one else (b"\4",)) if has[net] else b"\0" for net in "AB"}
+    true = {net: it for net, it in true.items() if has[net] or rng.random() < 0.7}
+    faults = faults_of(f"told {seed}", plan, captures(true), Options(), [])
+    faults += faults_of(f"told, and by hand {seed}", plan, captures(true), Options(fcs=True))
+    wrong = {net: rng.choice((b"\0", b"\0", b"\2", b"\4", b"\x08", b"\x20", b"\xff", b"", b"\4\0")) for net in "AB" if rng.random() < 0.8}
+    return faults + faults_of(f"told wrongly {seed}", plan, captures(wrong), Options())
+
+
 def of_another_maker(seed: int) -> list[str]:
     """What is wrong with the verdicts on a recording of another maker's end system: nothing is found by ARINC 664 alone, and else
     each frame with another field or padding, and what their loss shows."""
@@ -313,7 +337,7 @@ def main() -> int:
             # (so each rule of the layout is broken)
             cases = [(kind, seed) for seed in range(counts.planted * (1 if kind else 8))]
             tries.attempt(f"{len(cases)} times {word} alone", lambda cases=cases: (tried(planted, cases), ""))
-        for task in (late, jittered, checked, of_another_maker, staggered, lost, unmerged, mixed):
+        for task in (late, jittered, checked, told, of_another_maker, staggered, lost, unmerged, mixed):
             tries.attempt(f"{task.__name__}, {counts.mixed} times", lambda task=task: (tried(task, range(counts.mixed)), ""))
         tries.attempt("each prefix of a capture", lambda: (tried(prefix, prefixes(4 if counts is FEW else 60)), ""))
         tries.attempt(f"{counts.damaged} damaged captures", lambda: (tried(damaged, range(counts.damaged)), ""))

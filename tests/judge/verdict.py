@@ -138,14 +138,14 @@ class Judge:
         data = packet.data
         if len(data) < packet.original:
             raise Refused(None, "Frame", "Snapped", differ(len(data), packet.original))
-        if self.options.fcs:
+        if self.options.fcs or packet.fcs:
             if len(data) < 4:
                 raise Refused(None, "Frame", "Length", differ(len(data), 60))
             seen, wanted = int.from_bytes(data[-4:], "little"), zlib.crc32(data[:-4])
             if seen != wanted:
                 raise Refused(None, "Frame", "CheckSequence", differ(seen, wanted))
             return data[:-4]
-        if 64 <= len(data) <= 1518 and len(data) == max(60, 15 + half(data, 16)) + 4:
+        if packet.fcs is None and 64 <= len(data) <= 1518 and len(data) == max(60, 15 + half(data, 16)) + 4:
             if self.is_told:
                 raise Repeated
             self.is_told = True

@@ -80,6 +80,7 @@ struct Kept {
     network: Option<Net>,
     at: Option<u128>,
     original: u32,
+    fcs: Option<bool>,
 }
 
 impl Ahead {
@@ -93,6 +94,7 @@ impl Ahead {
             network: packet.network,
             at: packet.at,
             original: packet.original,
+            fcs: packet.fcs,
         });
         Ok(())
     }
@@ -105,6 +107,7 @@ impl Ahead {
             at: kept.at,
             original: kept.original,
             bytes: self.bytes.as_slice(),
+            fcs: kept.fcs,
         }
     }
 }

@@ -1,5 +1,5 @@
 -- The blocks that are written, as a reading takes them.
-use Rattle.capture.proofs.Names.{A, B, Block, Blocks, Entry, Fits, GREATEST_UNIT, Interface, List, Little, Net, Ok, Progress, Some, ap, append-nil, arith, block, block_content, block_size, body_of, content_of, drop, drop-append_seam, drop-drop, enhanced, eq-eqb, filled, interface_of, known, le-ltb, length, length-append, little_number-reads_back, moved, network_of, next, nothing_lost, number_at, or_stop, packet_body, packet_for, refl, section_type, size_of, slice_range, sym, take-append_seam, take_all, time_of, unit_of, word, [], ℕ, ◌%◌, ◌*◌, ◌++◌, ◌+◌, ◌-◌, ◌/◌, ◌<◌, ◌>>=◌, ◌^◌, ◌∙◌, ◌∷◌, ◌≡◌, ◌≤◌, drop_all, fill, content, enhanced_content, options_in, packet_options, telling, with_packet_losses}
+use Rattle.capture.proofs.Names.{A, B, Block, Blocks, Entry, Fits, GREATEST_UNIT, Interface, List, Little, Net, None, Ok, Progress, Some, ap, append-nil, arith, block, block_content, block_size, body_of, content_of, drop, drop-append_seam, drop-drop, enhanced, eq-eqb, filled, interface_of, known, le-ltb, length, length-append, little_number-reads_back, moved, network_of, next, nothing_lost, number_at, or_stop, packet_body, packet_for, refl, section_type, size_of, slice_range, sym, take-append_seam, take_all, time_of, unit_of, word, [], ℕ, ◌%◌, ◌*◌, ◌++◌, ◌+◌, ◌-◌, ◌/◌, ◌<◌, ◌>>=◌, ◌^◌, ◌∙◌, ◌∷◌, ◌≡◌, ◌≤◌, drop_all, fill, content, enhanced_content, options_in, packet_options, telling, with_packet_losses}
 use Rattle.capture.proofs.Packets.{length-packet_body}
 
 -- a reading in a little-endian section
@@ -95,7 +95,7 @@ block_next kind body interfaces lt other most even =
 
 -- the interfaces that are written
 abbrev pub interface_for : Net → Interface
-interface_for net = record { name = Some net; limit = 1514; resolution = 6; offset = 0; losses = nothing_lost }
+interface_for net = record { name = Some net; limit = 1514; resolution = 6; offset = 0; fcs = None; losses = nothing_lost }
 
 abbrev pub both : List Interface
 both = interface_for A ∷ interface_for B ∷ []

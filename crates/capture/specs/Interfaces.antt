@@ -1,5 +1,5 @@
 -- Interfaces as a section describes them, and the times of their packets.
-use Rattle.std.specs.Prelude.{ℕ, zero, suc, ◌+◌, ◌-◌, ◌*◌, ◌/◌, ◌^◌, nat_eq, nat_lt, if◌then◌else◌, List, [], ◌∷◌, length, drop, slice_get, slice_range, ok_or, option_and_then, Option, Some, None, Result, Ok, Err}
+use Rattle.std.specs.Prelude.{ℕ, Bool, true, false, zero, suc, ◌+◌, ◌-◌, ◌*◌, ◌/◌, ◌%◌, ◌^◌, nat_eq, nat_lt, if◌then◌else◌, List, [], ◌∷◌, length, drop, slice_get, slice_range, ok_or, option_and_then, Option, Some, None, Result, Ok, Err}
 use Rattle.std.specs.List.{list_any}
 use Rattle.std.specs.Option.{is_some}
 use Rattle.afdx_frame.specs.declared.net.Net.{Net}
@@ -25,7 +25,7 @@ nothing_lost = record { before_packets = 0; by_interface = 0; by_system = 0 }
 
 -- an interface without options: its times are in microseconds since 1970
 abbrev pub plain : ℕ → Interface
-plain limit = record { name = None; limit = limit; resolution = 6; offset = 0; losses = nothing_lost }
+plain limit = record { name = None; limit = limit; resolution = 6; offset = 0; fcs = None; losses = nothing_lost }
 
 -- the network with this name, A or B
 abbrev pub name_of : List ℕ → Option Net
@@ -38,14 +38,26 @@ abbrev pub with_resolution : List ℕ → Interface → Result Interface Fault
 with_resolution (byte ∷ []) i = Ok (record i { resolution = byte })
 with_resolution _ i = Err BadOption
 
--- the name is option 2, the resolution of times 9, and the offset that is added to them 14; others are skipped
+-- Packets end with their check sequence, or they don't, by the length of one: Ethernet's has 4 bytes. Another length
+-- tells nothing.
+abbrev pub fcs_of : ℕ → Option Bool
+fcs_of len = if nat_eq len 0 then Some false else (if nat_eq len 4 then Some true else None)
+
+-- the length of check sequences is one byte: in bytes, or 32, which is in bits
+abbrev pub with_fcs : List ℕ → Interface → Result Interface Fault
+with_fcs (len ∷ []) i = Ok (record i { fcs = fcs_of (if nat_eq len 32 then 4 else len) })
+with_fcs _ i = Err BadOption
+
+-- the name is option 2, the resolution of times 9, the length of check sequences 13, and the offset that is added to
+-- times 14; others are skipped
 unfoldable pub with_option : Order → ℕ → List ℕ → Interface → Result Interface Fault
 with_option order code value i =
     if nat_eq code 2 then Ok (record i { name = name_of value })
     else (if nat_eq code 9 then with_resolution value i
+    else (if nat_eq code 13 then with_fcs value i
     else (if nat_eq code 14
     then (if nat_eq (length value) 8 then Ok (record i { offset = number_at order 8 0 value }) else Err BadOption)
-    else Ok i))
+    else Ok i)))
 
 -- an option: its code, the length of its value, and its value with padding to a multiple of 4
 unfoldable pub first_option : Order → List ℕ → Result OptionFront Fault
@@ -63,6 +75,15 @@ with_options order (suc most) (byte ∷ bytes) i =
     first_option order (byte ∷ bytes) >>= (λ front. if nat_eq front.code 0 then Ok i
     else with_option order front.code (slice_range (byte ∷ bytes) 4 (4 + front.len)) i
     >>= with_options order most (drop (4 + (front.len + fill front.len)) (byte ∷ bytes)))
+
+-- the last word of a pcap header: bit 26 says that the four highest bits are the length of check sequences, in words of
+-- 16 bits
+abbrev pub fcs_in : ℕ → Option Bool
+fcs_in word = if nat_eq (word / 2 ^ 26 % 2) 1 then fcs_of (2 * (word / 2 ^ 28)) else None
+
+-- the check sequences of an interface's packets
+abbrev pub fcs_on : List Interface → ℕ → Option Bool
+fcs_on interfaces number = option_and_then (λ (i : Interface). i.fcs) (slice_get interfaces number)
 
 -- units of time in a second: a power of ten, or of two if the highest bit is set
 abbrev pub per_second : ℕ → ℕ

@@ -25,7 +25,7 @@ is_of B (Some B) = true
 abbrev pub packets_on : Net → List Recorded → List Recorded
 packets_on net packets = filter (λ (p : Recorded). is_of net p.network) packets
 
--- a frame as it is read: its time in nanoseconds, and all its bytes
+-- a frame as it is read: its time in nanoseconds, and all its bytes; the capture says nothing of check sequences
 abbrev pub packet_for : Net → Entry → Recorded
 packet_for net e = record {
   interface = interface_of net;
@@ -33,6 +33,7 @@ packet_for net e = record {
   at = Some (e.at * 1000);
   original = length e.frame;
   bytes = e.frame;
+  fcs = None;
 }
 
 -- a whole recording of the frames of network A and of network B, without losses

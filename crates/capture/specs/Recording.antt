@@ -2,7 +2,7 @@
 use Rattle.std.specs.Prelude.{ℕ, Bool, false, zero, suc, ◌+◌, ◌-◌, ◌*◌, ◌%◌, ◌^◌, ◌≡◌, nat_eq, nat_lt, ◌||◌, if◌then◌else◌, List, [], ◌∷◌, ◌++◌, length, map, take, drop, slice_range, option_map, Option, Some, None, Result, Ok, Err}
 use Rattle.afdx_frame.specs.declared.net.Net.{Net}
 use Rattle.afdx_frame.specs.declared.net.Net.TheVariants.{A}
-use Rattle.capture.specs.Interfaces.{◌>>=◌, plain, with_options, time_of, known, network_of}
+use Rattle.capture.specs.Interfaces.{◌>>=◌, fcs_in, fcs_on, plain, with_options, time_of, known, network_of}
 use Rattle.capture.specs.Losses.{counted, lost_on, with_losses, with_packet_losses, with_statistics}
 use Rattle.capture.specs.Units.{number_at, unit_of, size_of}
 use Rattle.capture.specs.declared.stop.CaptureEnd.{CaptureEnd}
@@ -25,13 +25,15 @@ use Rattle.capture.specs.declared.unit.TheConstants.{UNIT_FRONT}
 use Rattle.capture.specs.declared.unit.Unit.{Unit as CaptureUnit}
 use Rattle.capture.specs.declared.unit.Unit.TheVariants.{Section, Block, Header, Record}
 
--- a packet: its interface and its network, its time in nanoseconds since 1970, its length, and its captured bytes
+-- a packet: its interface and its network, its time in nanoseconds since 1970, its length, its captured bytes, and
+-- whether its capture says that it ends with its check sequence, or doesn't
 pub record Recorded : Type 0 where
   pub interface : ℕ
   pub network : Option Net
   pub at : Option ℕ
   pub original : ℕ
   pub bytes : List ℕ
+  pub fcs : Option Bool
 
 -- a packet, with the bytes that it borrows
 abbrev pub recorded : Packet → Recorded
@@ -41,6 +43,7 @@ recorded p = record {
   at = p.at;
   original = p.original;
   bytes = p.bytes.now;
+  fcs = p.fcs;
 }
 
 abbrev pub recorded_if : Option Packet → Option Recorded
@@ -69,6 +72,7 @@ enhanced order interfaces body =
       at = Some at;
       original = number_at order 4 16 body;
       bytes = slice_range body 20 (20 + captured);
+      fcs = described.fcs;
     })))
 
 -- the number of bytes that are captured of a packet: at most the limit, if there is one
@@ -88,6 +92,7 @@ simple order interfaces body =
       at = None;
       original = original;
       bytes = slice_range body 4 (4 + captured_of described.limit original);
+      fcs = described.fcs;
     }))
 
 -- nanoseconds in a unit of the second part of a record's time
@@ -97,13 +102,14 @@ nanos_in Nanos = 1
 
 -- A record: its time in seconds and their parts, the captured and the original length. Its interface is the only one,
 -- so it belongs to network A.
-unfoldable pub from_record : Order → Clock → List ℕ → Recorded
-from_record order clock whole = record {
+unfoldable pub from_record : Order → Clock → Option Bool → List ℕ → Recorded
+from_record order clock fcs whole = record {
   interface = 0;
   network = Some A;
   at = Some (number_at order 4 0 whole * 10 ^ 9 + number_at order 4 4 whole * nanos_in clock);
   original = number_at order 4 12 whole;
   bytes = drop 16 whole;
+  fcs = fcs;
 }
 
 -- ---- steps
@@ -191,15 +197,15 @@ block_content p order kind body =
     else (if nat_eq kind 6 then enhanced_content p order body
     else Ok (no_packet p)))))
 
--- the header of a pcap file: version 2 of the format, and Ethernet, in the low 16 bits of its last word. All records
--- belong to one interface.
+-- The header of a pcap file: version 2 of the format, and Ethernet, in the low 16 bits of its last word, which may tell
+-- of check sequences. All records belong to one interface.
 unfoldable pub header_content : Progress → Order → Clock → List ℕ → Result Content Fault
 header_content p order clock whole =
     if nat_eq (number_at order 2 4 whole) 2
     then (if nat_eq (number_at order 4 20 whole % 2 ^ 16) 1
     then Ok (no_packet (record p {
       format = Records order clock;
-      interfaces = plain (number_at order 4 16 whole) ∷ [];
+      interfaces = record (plain (number_at order 4 16 whole)) { fcs = fcs_in (number_at order 4 20 whole) } ∷ [];
     }))
     else Err LinkType)
     else Err Version
@@ -209,7 +215,7 @@ unfoldable pub content_of : Progress → CaptureUnit → List ℕ → Result Con
 content_of p (Section order) whole = body_of order whole >>= section_content p order
 content_of p (Block order) whole = body_of order whole >>= block_content p order (number_at order 4 0 whole)
 content_of p (Header order clock) whole = header_content p order clock whole
-content_of p (Record order clock) whole = Ok (content p (Some (from_record order clock whole)))
+content_of p (Record order clock) whole = Ok (content p (Some (from_record order clock (fcs_on p.interfaces 0) whole)))
 
 -- a fault stops a reading
 abbrev pub or_stop : {X : Type 0} → Result X Fault → Result X NoStep

@@ -3,7 +3,7 @@ ghost use Rattle.std.specs.Prelude.{◌≡◌, ◌+◌, ◌*◌, ◌/◌, ◌^�
 ghost use Rattle.std.specs.List.{list_any};
 ghost use Rattle.std.specs.Option.{is_some};
 ghost use Rattle.capture.specs.Capture.{fill};
-ghost use Rattle.capture.specs.Interfaces.{plain, name_of as name_network, with_option, first_option, with_options, per_second, time_of, known, network_named, network_of as network_at};
+ghost use Rattle.capture.specs.Interfaces.{fcs_of, fcs_in, fcs_on, plain, name_of as name_network, with_option, first_option, with_options, per_second, time_of, known, network_named, network_of as network_at};
 
 use crate::losses::Losses;
 use crate::order::Order;
@@ -21,6 +21,8 @@ const NAME: u16 = 2;
 
 const RESOLUTION: u16 = 9;
 
+const CHECK_LENGTH: u16 = 13;
+
 const OFFSET: u16 = 14;
 
 /// The most interfaces of a section.
@@ -37,6 +39,8 @@ pub struct Interface {
     pub resolution: u8,
     /// The seconds to be added to times, in two's complement.
     pub offset: u64,
+    /// The packets end with their check sequence, or they don't. None if the capture doesn't say it.
+    pub fcs: Option<bool>,
     /// The packets that were lost, as far as the recorder told.
     pub losses: Losses,
 }
@@ -59,6 +63,35 @@ fn name_of(name: &[u8]) -> Option<Net>
     }
 }
 
+/// Returns whether packets end with a check sequence of this length in bytes. None of a length that Ethernet's hasn't.
+fn fcs_of(len: u8) -> Option<bool>
+    ensures { result ≡ fcs_of len }
+{
+    match len {
+        0 => Some(false),
+        4 => Some(true),
+        _ => None,
+    }
+}
+
+/// Returns whether packets end with their check sequence, by the last word of a pcap header.
+pub(crate) fn fcs_in(word: u32) -> Option<bool>
+    ensures { result ≡ fcs_in word }
+{
+    if word / 0x0400_0000 % 2 == 1 {
+        fcs_of(2 * (word / 0x1000_0000) as u8)
+    } else {
+        None
+    }
+}
+
+/// Returns whether the packets of an interface end with their check sequence.
+pub(crate) fn fcs_on(interfaces: &[Interface], number: u32) -> Option<bool>
+    ensures { result ≡ fcs_on interfaces.now number }
+{
+    interfaces.get(number as usize)?.fcs
+}
+
 impl Interface {
     /// Creates an interface without options: its times are in microseconds.
     pub(crate) fn new(limit: u32) -> Interface
@@ -69,6 +102,7 @@ impl Interface {
             limit,
             resolution: 6,
             offset: 0,
+            fcs: None,
             losses: Losses::default(),
         }
     }
@@ -82,8 +116,9 @@ impl Interface {
         match (code, value) {
             (NAME, _) => changed.name = name_of(value),
             (RESOLUTION, [resolution]) => changed.resolution = *resolution,
+            (CHECK_LENGTH, [len]) => changed.fcs = fcs_of(if *len == 32 { 4 } else { *len }),
             (OFFSET, [_, _, _, _, _, _, _, _]) => changed.offset = order.long(value),
-            (RESOLUTION | OFFSET, _) => return Err(Fault::BadOption),
+            (RESOLUTION | CHECK_LENGTH | OFFSET, _) => return Err(Fault::BadOption),
             _ => {}
         }
         Ok(changed)

@@ -21,6 +21,8 @@ pub struct Packet<'a> {
     pub original: u32,
     /// The bytes that were captured.
     pub bytes: &'a [u8],
+    /// The packet ends with its check sequence, or it doesn't. None if the capture doesn't say it.
+    pub fcs: Option<bool>,
 }
 
 /// Returns the packet of an enhanced packet block.
@@ -50,6 +52,7 @@ pub(crate) fn enhanced<'a>(
         at: Some(at),
         original: order.word_at(body, 16),
         bytes: &body[20..20 + captured],
+        fcs: described.fcs,
     })
 }
 
@@ -88,14 +91,20 @@ pub(crate) fn simple<'a>(
         at: None,
         original,
         bytes: &body[4..4 + captured],
+        fcs: described.fcs,
     })
 }
 
 /// Returns the packet of a record.
 #[tactic(auto, unfolding(crate::specs::Recording::from_record))]
-pub(crate) fn from_record<'a>(order: Order, clock: Clock, whole: &'a [u8]) -> Packet<'a>
+pub(crate) fn from_record<'a>(
+    order: Order,
+    clock: Clock,
+    fcs: Option<bool>,
+    whole: &'a [u8],
+) -> Packet<'a>
     requires { 16 ≤ length whole.now }
-    ensures { recorded result ≡ from_record order clock whole.now }
+    ensures { recorded result ≡ from_record order clock fcs whole.now }
 {
     let unit = match clock {
         Clock::Micros => 1_000,
@@ -109,5 +118,6 @@ pub(crate) fn from_record<'a>(order: Order, clock: Clock, whole: &'a [u8]) -> Pa
         at: Some(seconds * 1_000_000_000 + part * unit),
         original: order.word_at(whole, 12),
         bytes: &whole[16..],
+        fcs,
     }
 }

@@ -3,7 +3,7 @@ ghost use Rattle.std.specs.Prelude.{◌≡◌, ℕ, ◌+◌, ◌≤◌, ◌<◌,
 ghost use Rattle.capture.specs.Units.{least_size};
 ghost use Rattle.capture.specs.Recording.{Progress, at_start, section_content, interface_content, block_content, header_content, statistics_content, enhanced_content, no_packet, lost_by, body_of, content, content_of, Does, moved, next, ended, recorded_if, recording_of, read_capture as recording_in};
 
-use crate::interface::{Interface, MOST_INTERFACES};
+use crate::interface::{Interface, MOST_INTERFACES, fcs_in, fcs_on};
 use crate::order::Order;
 use crate::packet::{Packet, enhanced, from_record, simple};
 use crate::stop::{CaptureEnd, Fault, NoStep};
@@ -117,7 +117,10 @@ impl Reading {
                 self.take_block(order, order.word_at(whole, 0), body(order, whole)?)
             }
             Unit::Header(order, clock) => self.begin_records(order, clock, whole),
-            Unit::Record(order, clock) => Ok(Some(from_record(order, clock, whole))),
+            Unit::Record(order, clock) => {
+                let fcs = fcs_on(self.interfaces.as_slice(), 0);
+                Ok(Some(from_record(order, clock, fcs, whole)))
+            }
         }
     }
 
@@ -156,13 +159,16 @@ impl Reading {
         if order.half_at(whole, 4) != 2 {
             return Err(Fault::Version);
         }
-        if order.word_at(whole, 20) % 0x1_0000 != 1 {
+        let link = order.word_at(whole, 20);
+        if link % 0x1_0000 != 1 {
             return Err(Fault::LinkType);
         }
         self.format = Format::Records(order, clock);
         self.interfaces.clear();
-        self.interfaces
-            .push(Interface::new(order.word_at(whole, 16)));
+        self.interfaces.push(Interface {
+            fcs: fcs_in(link),
+            ..Interface::new(order.word_at(whole, 16))
+        });
         Ok(None)
     }
 

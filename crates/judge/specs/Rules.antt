@@ -1,5 +1,6 @@
 -- The rules by which a packet is admitted, all without a state. A packet that breaks one is judged no further.
-use Rattle.std.specs.Prelude.{ℕ, ◌+◌, ◌-◌, ◌==◌, nat_eq, nat_lt, nat_le, ◌&&◌, Bool, if◌then◌else◌, List, length, drop, take, slice_index, position, Option, Some, None, Result, Ok, Err}
+use Rattle.std.specs.Prelude.{ℕ, ◌+◌, ◌-◌, ◌==◌, nat_eq, nat_lt, nat_le, ◌&&◌, ◌||◌, unwrap_or, Bool, false, if◌then◌else◌, List, length, drop, take, slice_index, position, Option, Some, None, Result, Ok, Err}
+use Rattle.std.specs.Option.{is_some}
 use Rattle.byteorder.specs.Endian.{little_number}
 use Rattle.afdx_plan.specs.Config.{link_plan_at}
 use Rattle.afdx_frame.specs.Frame.{interface_byte}
@@ -43,12 +44,22 @@ abbrev pub in_layout : Bool → Result (List ℕ) Refused → Result (List ℕ) 
 in_layout arinc (Ok frame) = if_kept frame (layout_broken arinc frame)
 in_layout arinc (Err why) = Err why
 
+-- a packet ends with its check sequence, by the options or by its capture
+abbrev pub has_check : Options → Recorded → Bool
+has_check options packet = options.fcs || unwrap_or packet.fcs false
+
+-- The bytes of a packet's frame. If nothing is said, the packet may seem to end with a check sequence.
+abbrev pub bytes_in : Options → Recorded → Result (List ℕ) Refused
+bytes_in options packet =
+    if has_check options packet then checked packet.bytes
+    else (if is_some packet.fcs then Ok packet.bytes else unchecked packet.bytes)
+
 -- the frame of a packet, which is whole and of the layout
 unfoldable pub frame_in : Options → Recorded → Result (List ℕ) Refused
 frame_in options packet =
     if nat_lt (length packet.bytes) packet.original
     then Err (refused None (Frame Snapped) (length packet.bytes) packet.original)
-    else in_layout options.arinc (if options.fcs then checked packet.bytes else unchecked packet.bytes)
+    else in_layout options.arinc (bytes_in options packet)
 
 -- the interface identifier that a link's frame has on a network, 0 if the network doesn't carry it
 abbrev pub interface_on : LinkPlan → Net → ℕ

@@ -31,7 +31,8 @@ pub struct Options {
     /// The recording began after the end system: a link's first sequence number may be any, and its first frames may be
     /// the end of a message.
     pub late: bool,
-    /// Frames were recorded with their check sequence, which is tested.
+    /// Frames were recorded with their check sequence, which is tested. Without this, a capture may say so of its
+    /// packets.
     pub fcs: bool,
     /// Frames are judged by ARINC 664 Part 7 alone, as frames of other makers: their time to live, type of service and
     /// padding may be any, a frame may carry ICMP, and messages may be cut anywhere, have no bytes, the flag DF if they

@@ -94,10 +94,10 @@ pub(crate) fn frame_in<'a>(packet: &Packet<'a>, options: &Options) -> Result<&'a
     if len < original {
         return Err(refusal(None, FindingKind::Frame(Layout::Snapped), len, original));
     }
-    let frame = if options.fcs {
-        checked(bytes)?
-    } else {
-        unchecked(bytes)?
+    let frame = match (options.fcs, packet.fcs) {
+        (true, _) | (false, Some(true)) => checked(bytes)?,
+        (false, Some(false)) => bytes,
+        (false, None) => unchecked(bytes)?,
     };
     match layout_broken(options.arinc, frame) {
         Some(why) => Err(refusal(

@@ -1,5 +1,5 @@
 -- Twins wanted: a frame through the packets after it, and the law.
-use Rattle.judge_laws.proofs.Names.{All-contains, is_twin, Contains, Finding, IsInOrder, IsPlan, Link, LinkPlan, List, Nearness, Net, OnNet, Options, Plan, Times, Wait, ap, apart, arith, cases_Bool, cases_eq, false, filter, findings, found_at_end, found_from, found_left, found_with_end, inl, inr, is_both, is_left, length, length-replicate, link_at, link_in, link_plan_at, nat_tests, nearness_of, new_link, no_times, number_in, refl, same_net, subst, suc, sym, tag_of, time_of, times_with, true, twin_number, twin_of, zero, ℕ, [], ◌*◌, ◌+◌, ◌<◌, ◌∙◌, ◌∷◌, ◌≡◌, ◌≤◌, ◌⊎◌, HasTwin, TwinsWanted}
+use Rattle.judge_laws.proofs.Names.{has_check, All-contains, is_twin, Contains, Finding, IsInOrder, IsPlan, Link, LinkPlan, List, Nearness, Net, OnNet, Options, Plan, Times, Wait, ap, apart, arith, cases_Bool, cases_eq, false, filter, findings, found_at_end, found_from, found_left, found_with_end, inl, inr, is_both, is_left, length, length-replicate, link_at, link_in, link_plan_at, nat_tests, nearness_of, new_link, no_times, number_in, refl, same_net, subst, suc, sym, tag_of, time_of, times_with, true, twin_number, twin_of, zero, ℕ, [], ◌*◌, ◌+◌, ◌<◌, ◌∙◌, ◌∷◌, ◌≡◌, ◌≤◌, ◌⊎◌, HasTwin, TwinsWanted}
 use Rattle.judge_laws.proofs.Begin.{link_is_new, links_at_start, own_options}
 use Rattle.judge_laws.proofs.Line.{of_profile}
 use Rattle.judge_laws.proofs.Meeting.{IsFrameOn, IsPacketOf, comes, frame_on, its, links_now, met, near, none_now, now, others_now, packets_now, size_now, time, wait_of, waiting_now, waits_on}
@@ -51,7 +51,7 @@ twin_says : (options : Options) (now : Times) (p : OnNet) (at : ℕ) (frame : Li
 twin_says options now p at frame w is = grind (arith, nat_tests, cases_Bool)
 
 -- a link on both networks, in a recording of bytes
-module _ (plan : Plan) (options : Options) (recording : List OnNet) (plain : options.fcs ≡ false) (k : ℕ) (inside : k < length plan.links)
+module _ (plan : Plan) (options : Options) (recording : List OnNet) (plain : (x : OnNet) → Contains recording x → has_check options x.packet ≡ false) (k : ℕ) (inside : k < length plan.links)
     (both : is_both (link_plan_at plan.links k).networks ≡ true) where
   -- a frame whose twin is wanted meets it in the packets that are left
   follow : (ps : List OnNet) (times : Times) (links : List Link) (w : Wait) (b : ℕ) (a : OnNet) → length links ≡ length plan.links
@@ -67,32 +67,32 @@ module _ (plan : Plan) (options : Options) (recording : List OnNet) (plain : opt
       let fails = fails_in (is_left nearness) w _ (left_none nearness plan.links links k [] size none inside) waits in
       absurd (cc (fails, before, after))
   follow (x ∷ xs) times links w b a size rest waits heard earlier other later comes_later none =
-      let q = its plan options times links x xs plain size none in
+      let q = its plan options times links x xs (plain x (rest x (inl refl))) size none in
       let heard_then = heard_on w.tag.net x.net b q.at times heard in
-      let go_on = λ (still : IsIn w (link_at (links_now plan options times links x xs plain size none) k).twins.waiting).
-      follow xs (now plan options times links x xs plain size none) (links_now plan options times links x xs plain size none) w b a
-      (size_now plan options times links x xs plain size none) (λ y is. rest y (inr is)) still heard_then earlier other later
-      (heard_next w.tag.net a x q.at times xs other (time plan options times links x xs plain size none) comes_later)
-      (none_now plan options times links x xs plain size none) in
+      let go_on = λ (still : IsIn w (link_at (links_now plan options times links x xs (plain x (rest x (inl refl))) size none) k).twins.waiting).
+      follow xs (now plan options times links x xs (plain x (rest x (inl refl))) size none) (links_now plan options times links x xs (plain x (rest x (inl refl))) size none) w b a
+      (size_now plan options times links x xs (plain x (rest x (inl refl))) size none) (λ y is. rest y (inr is)) still heard_then earlier other later
+      (heard_next w.tag.net a x q.at times xs other (time plan options times links x xs (plain x (rest x (inl refl))) size none) comes_later)
+      (none_now plan options times links x xs (plain x (rest x (inl refl))) size none) in
       elim (cases_eq k q.k) [
         | inl same ↦
             let own = rw same at both in
-            elim (waits_on (near plan options times links x xs plain size none) (tag_of x.net x.number q.at) x.packet.bytes
-            (link_at links q.k).twins (met plan options times links x xs plain size none own) w (rw same at waits)
-            (heard_before (of_profile options) (now plan options times links x xs plain size none) w.tag b heard_then earlier)) [
-              | inl still ↦ go_on (rw same (rw (waiting_now plan options times links x xs plain size none own) still))
+            elim (waits_on (near plan options times links x xs (plain x (rest x (inl refl))) size none) (tag_of x.net x.number q.at) x.packet.bytes
+            (link_at links q.k).twins (met plan options times links x xs (plain x (rest x (inl refl))) size none own) w (rw same at waits)
+            (heard_before (of_profile options) (now plan options times links x xs (plain x (rest x (inl refl))) size none) w.tag b heard_then earlier)) [
+              | inl still ↦ go_on (rw same (rw (waiting_now plan options times links x xs (plain x (rest x (inl refl))) size none own) still))
               | inr meets ↦
-                  let says = twin_says options (now plan options times links x xs plain size none) x q.at x.packet.bytes w meets.twin in
+                  let says = twin_says options (now plan options times links x xs (plain x (rest x (inl refl))) size none) x q.at x.packet.bytes w meets.twin in
                   record {
                     q = x;
                     member = rest x (inl refl);
-                    frame = frame_on plan options times links x xs plain size none;
+                    frame = frame_on plan options times links x xs (plain x (rest x (inl refl))) size none;
                     net = says.0;
-                    close = rw (time plan options times links x xs plain size none) says.1;
+                    close = rw (time plan options times links x xs (plain x (rest x (inl refl))) size none) says.1;
                     alike = meets.alike;
                   }
             ]
-        | inr apart ↦ go_on (rw (others_now plan options times links x xs plain size none k apart) waits)
+        | inr apart ↦ go_on (rw (others_now plan options times links x xs (plain x (rest x (inl refl))) size none k apart) waits)
       ]
 
   -- ---- the packet
@@ -127,24 +127,24 @@ module _ (plan : Plan) (options : Options) (recording : List OnNet) (plain : opt
         → IsHeard p.net (time_of b.packet) times → IsHeardOf p.net a times (p ∷ ps)
         → found_from (p ∷ ps) (judge_of plan options times false links) [] ≡ [] → HasTwin options recording p
     arrives ps times links size rest waits heard comes_later none =
-        let q = its plan options times links p ps plain size none in
-        let at : time_of p.packet ≡ q.at = time plan options times links p ps plain size none in
-        let of_p = frame_on plan options times links p ps plain size none in
+        let q = its plan options times links p ps (plain p (rest p (inl refl))) size none in
+        let at : time_of p.packet ≡ q.at = time plan options times links p ps (plain p (rest p (inl refl))) size none in
+        let of_p = frame_on plan options times links p ps (plain p (rest p (inl refl))) size none in
         let same : k ≡ q.k = valid.links_apart k q.k inside q.admitted.placed.within (ap vl_of (sym its_link ∙ q.admitted.placed.link)) in
         let own = rw same at both in
-        elim (comes (near plan options times links p ps plain size none) (tag_of p.net p.number q.at) p.packet.bytes (link_at links q.k).twins
-        (met plan options times links p ps plain size none own)) [
+        elim (comes (near plan options times links p ps (plain p (rest p (inl refl))) size none) (tag_of p.net p.number q.at) p.packet.bytes (link_at links q.k).twins
+        (met plan options times links p ps (plain p (rest p (inl refl))) size none own)) [
           | inl new ↦ by_met (wait_of (tag_of p.net p.number q.at) p.packet.bytes) refl (sym at) refl of_p
-              (follow ps (now plan options times links p ps plain size none) (links_now plan options times links p ps plain size none)
+              (follow ps (now plan options times links p ps (plain p (rest p (inl refl))) size none) (links_now plan options times links p ps (plain p (rest p (inl refl))) size none)
               (wait_of (tag_of p.net p.number q.at) p.packet.bytes) (time_of b.packet) a
-              (size_now plan options times links p ps plain size none) (λ y is. rest y (inr is))
-              (rw same (rw (waiting_now plan options times links p ps plain size none own) new))
+              (size_now plan options times links p ps (plain p (rest p (inl refl))) size none) (λ y is. rest y (inr is))
+              (rw same (rw (waiting_now plan options times links p ps (plain p (rest p (inl refl))) size none own) new))
               (heard_on p.net p.net (time_of b.packet) q.at times heard) (rw at at earlier) a_other (rw at at later)
-              (heard_next p.net a p q.at times ps a_other at comes_later) (none_now plan options times links p ps plain size none))
+              (heard_next p.net a p q.at times ps a_other at comes_later) (none_now plan options times links p ps (plain p (rest p (inl refl))) size none))
           | inr old ↦
               let w : Wait = old.0 in
               let of = waits w (rw same old.1.waited) in
-              let says = twin_says options (now plan options times links p ps plain size none) p q.at p.packet.bytes w old.1.twin in
+              let says = twin_says options (now plan options times links p ps (plain p (rest p (inl refl))) size none) p q.at p.packet.bytes w old.1.twin in
               twin_with of.packet of.member of.frame of_p (rw of.net at says.0) (rw (at, ← of.at) says.1)
               (alike_back of.packet.packet.bytes p.packet.bytes (subst (λ (f : List ℕ). AreAlike f p.packet.bytes) of.bytes old.1.alike))
         ]
@@ -170,17 +170,17 @@ module _ (plan : Plan) (options : Options) (recording : List OnNet) (plain : opt
             waits heard (subst (λ (y : OnNet). IsHeardOf p.net a times (y ∷ xs)) same after)
             (subst (λ (y : OnNet). found_from (y ∷ xs) (judge_of plan options times false links) [] ≡ []) same none)
     finds (x ∷ xs) times links latest size rest waits (inr is) before after order none =
-        let q = its plan options times links x xs plain size none in
-        let at = time plan options times links x xs plain size none in
-        finds xs (now plan options times links x xs plain size none) (links_now plan options times links x xs plain size none) (time_of x.packet)
-        (size_now plan options times links x xs plain size none) (λ y in_xs. rest y (inr in_xs))
-        (packets_now plan options times links x xs plain size none recording k both (rest x (inl refl)) waits) is
+        let q = its plan options times links x xs (plain x (rest x (inl refl))) size none in
+        let at = time plan options times links x xs (plain x (rest x (inl refl))) size none in
+        finds xs (now plan options times links x xs (plain x (rest x (inl refl))) size none) (links_now plan options times links x xs (plain x (rest x (inl refl))) size none) (time_of x.packet)
+        (size_now plan options times links x xs (plain x (rest x (inl refl))) size none) (λ y in_xs. rest y (inr in_xs))
+        (packets_now plan options times links x xs (plain x (rest x (inl refl))) size none recording k both (rest x (inl refl)) waits) is
         (heard_next p.net b x q.at times xs b_other at before) (heard_next p.net a x q.at times xs a_other at after) order.1
-        (none_now plan options times links x xs plain size none)
+        (none_now plan options times links x xs (plain x (rest x (inl refl))) size none)
 
 pub twins_wanted_holds : TwinsWanted
 twins_wanted_holds plan options recording p valid profile plain order none member on common =
-    finds plan options recording plain on.k on.within on.both valid p common.before common.after member on.link common.has_before.net common.earlier
+    finds plan options recording (λ x is. All-contains (λ (p : OnNet). has_check options p.packet ≡ false) recording x plain is) on.k on.within on.both valid p common.before common.after member on.link common.has_before.net common.earlier
     common.has_after.net common.later recording no_times (links_at_start plan options) 0 (length-replicate (length plan.links) (new_link options.late false))
     (λ x is. in_contains x recording is)
     (λ w is. absurd (subst (λ (l : Link). IsIn w l.twins.waiting) (link_is_new plan options on.k on.within) is))

@@ -1,5 +1,5 @@
 -- Twins wanted: what each packet without a finding does to the frames that wait, and the law.
-use Rattle.judge_laws.proofs.Names.{Bool, Contains, Link, List, Nearness, None, OnNet, Option, Options, Pairing, Plan, PortPlan, Setting, Some, Tag, Times, Wait, arith, cases_Bool, cases_eq, false, filter, find, found_from, found_missing, found_on_link, found_with_packet, inl, inr, is_both, is_heard_before, is_lost, is_twin, kept, left_waiting, length, length-set, link_at, link_plan_at, nat_tests, number_in, pairing_with, position_or_len, refl, remove, slice_index, stays, subst, sym, tag_of, time_of, times_with, true, twin_deviation, with_verdict, ℕ, [], ◌++◌, ◌∙◌, ◌∷◌, ◌≡◌, ◌≢◌, ◌≤◌, ◌⊎◌, interface_byte}
+use Rattle.judge_laws.proofs.Names.{has_check, Bool, Contains, Link, List, Nearness, None, OnNet, Option, Options, Pairing, Plan, PortPlan, Setting, Some, Tag, Times, Wait, arith, cases_Bool, cases_eq, false, filter, find, found_from, found_missing, found_on_link, found_with_packet, inl, inr, is_both, is_heard_before, is_lost, is_twin, kept, left_waiting, length, length-set, link_at, link_plan_at, nat_tests, number_in, pairing_with, position_or_len, refl, remove, slice_index, stays, subst, sym, tag_of, time_of, times_with, true, twin_deviation, with_verdict, ℕ, [], ◌++◌, ◌∙◌, ◌∷◌, ◌≡◌, ◌≢◌, ◌≤◌, ◌⊎◌, interface_byte}
 use Rattle.judge_laws.proofs.Message.{port_at}
 use Rattle.judge_laws.proofs.Reading.{back_none, number_of}
 use Rattle.judge_laws.proofs.Recording.{after_is, found_is, judge_of, line_given_up, nearness_at, new_at, new_links, other_at, setting_at, twins_after}
@@ -115,7 +115,7 @@ pub record IsPacketOf (recording : List OnNet) (w : Wait) : Type 0 where
   pub frame : IsFrameOn packet
 
 -- a packet without a finding, and the judge after it
-module _ (plan : Plan) (options : Options) (times : Times) (links : List Link) (p : OnNet) (ps : List OnNet) (plain : options.fcs ≡ false)
+module _ (plan : Plan) (options : Options) (times : Times) (links : List Link) (p : OnNet) (ps : List OnNet) (plain : has_check options p.packet ≡ false)
     (size : length links ≡ length plan.links) (none : found_from (p ∷ ps) (judge_of plan options times false links) [] ≡ []) where
   first : found_with_packet p.net p.number p.packet (judge_of plan options times false links) [] ≡ []
   first = grows ps _ _ none

@@ -62,7 +62,7 @@ pub use Rattle.judge.specs.Judging.{Admitted, Judging, OnNet, after_timed, arriv
 unfoldable pub use Rattle.judge.specs.Judging.{admitted, after_packet, found_of_arrival, found_on_link, found_with_end, found_with_packet, link_after, with_arrival, with_verdict}
 pub use Rattle.judge.specs.Lines.{delay_after, due_before, early_deviation, early_since, figures_with, new_line, new_sub, next_number, number_after, number_deviation, number_unless, other_sub, passed_by, port_deviation, settled, sub_at, sub_in as judge_sub, turn_deviation, turn_if}
 unfoldable pub use Rattle.judge.specs.Lines.{line_after, line_with, verdict}
-pub use Rattle.judge.specs.Rules.{has_four_more, interface_on, on_link, size_deviation}
+pub use Rattle.judge.specs.Rules.{has_check, has_four_more, interface_on, on_link, size_deviation}
 unfoldable pub use Rattle.judge.specs.Rules.{checked, frame_in, place_of, unchecked}
 pub use Rattle.judge.specs.Times.{no_times, other_span, span_with, times_with}
 pub use Rattle.judge.specs.Twins.{apart, first_other, is_heard_after, is_heard_before, is_left, is_lost, is_near, is_passed, is_twin, kept, missing, missing_of, same_net, stays}
@@ -79,7 +79,7 @@ pub use Rattle.vl_shaper.specs.declared.shaper.Stamp.{Stamp}
 pub use Rattle.judge_laws.specs.NoFalseAlarm.{AreFit, IsBegun, IsMissing, NoneByBeginning, IsRunOf, IsSent, NoFalseAlarm, lag_of, packets_of, IsRecord, IsRecording}
 pub use Rattle.judge_laws.specs.Frames.{IsRecordedAs}
 pub use Rattle.judge_laws.specs.NothingFound.{time_of, IsInOrder, NothingFound, IsWhole}
-pub use Rattle.judge_laws.specs.NothingMissed.{EndsWhole, IsExplained, IsOctets, IsReleased, IsSentTo, IsStrict, NothingMissed, entry_of, frames_of, sent_to}
+pub use Rattle.judge_laws.specs.NothingMissed.{AreUnchecked, EndsWhole, IsExplained, IsOctets, IsReleased, IsSentTo, IsStrict, NothingMissed, entry_of, frames_of, sent_to}
 pub use Rattle.judge_laws.specs.Releases.{AreApart, AreExplained, AreExplainedAfter, EarlyExactly, Heard, IsReleaseOf, NoneIsEarly, is_after, times_of}
 pub use Rattle.judge_laws.specs.TwinsWanted.{HasTwin, IsCommon, IsOnBoth, IsOnOther, TwinsWanted}
 pub use Rattle.std.specs.Option.{IsSome}

@@ -1,5 +1,5 @@
 -- The frames of a sub-VL on a network: the judge finds nothing wrong with the one that is due, and awaits the next one.
-use Rattle.judge_laws.proofs.Names.{layout_is_profile, All, All-contains, All-head, All-tail, Bool, Cutting, Head, IsAllowed, IsLink, IsPiece, IsPlan, IsPort, Joining, List, Net, None, Ok, Option, Options, Piece, Plan, PortPlan, Recorded, Sent, arith, blanked, checked, cut_whole, drop_at, false, fields_of, fragment_field, fragments, fragments_from, fragments_left, frame_in, frame_of, has_four_more, header_says, identification, if◌then◌else◌, inl, inr, judge_sub, left_first, left_none, length, length-append, length-frame, link_plan_at, max, names, nat_tests, new_sub, number_in, piece_at, place_of, refl, says, size_deviation, suc, sym, take_all, take_at, take_more, total_ok, true, unchecked, unnumbered, ℕ, [], ◌++◌, ◌+◌, ◌<◌, ◌∙◌, ◌∷◌, ◌≡◌, ◌≤◌, ◌⊎◌, IsRecordedAs}
+use Rattle.judge_laws.proofs.Names.{layout_is_profile, All, All-contains, All-head, All-tail, Bool, Cutting, Head, IsAllowed, IsLink, IsPiece, IsPlan, IsPort, Joining, List, Net, None, Ok, Option, Options, Piece, Plan, PortPlan, Recorded, Sent, arith, blanked, checked, cut_whole, drop_at, false, fields_of, fragment_field, fragments, fragments_from, fragments_left, frame_in, frame_of, has_check, has_four_more, header_says, identification, if◌then◌else◌, inl, inr, judge_sub, left_first, left_none, length, length-append, length-frame, link_plan_at, max, names, nat_tests, new_sub, number_in, piece_at, place_of, refl, says, size_deviation, suc, sym, take_all, take_at, take_more, total_ok, true, unchecked, unnumbered, ℕ, [], ◌++◌, ◌+◌, ◌<◌, ◌∙◌, ◌∷◌, ◌≡◌, ◌≤◌, ◌⊎◌, IsRecordedAs}
 use Rattle.judge_laws.proofs.Message.{IsDue, IsGood, IsHeard, IsNext, IsTrue, IsTrueAt, first_found, good, its_port, joining_after, next_piece, piece_is, port_at, room_at, true_after, true_behind}
 use Rattle.judge_laws.proofs.Reading.{Carries, carries, place_found, source_ok}
 
@@ -29,7 +29,7 @@ pub record IsAwaiting (plan : Plan) (k sub : ℕ) (net : Net) (joining : Joining
 
 -- The judge finds nothing wrong with a frame, and awaits what is left.
 pub record IsClean (plan : Plan) (k sub : ℕ) (net : Net) (joining : Joining) (frame : List ℕ) (left : List (List ℕ)) : Type 0 where
-  pub admitted : (options : Options) (packet : Recorded) → options.arinc ≡ false → IsRecordedAs options.fcs frame packet.bytes
+  pub admitted : (options : Options) (packet : Recorded) → options.arinc ≡ false → IsRecordedAs (has_check options packet) frame packet.bytes
       → packet.original ≡ length packet.bytes → frame_in options packet ≡ Ok frame
   pub placed : place_of plan net frame ≡ Ok k
   pub sized : size_deviation (link_plan_at plan.links k) (length frame) ≡ None
@@ -76,10 +76,10 @@ goes_on : (plan : Plan) (k sub : ℕ) (net : Net) (sent : Sent) (place start : �
 goes_on plan k sub net sent place start later joining piece next due are known behind = grind (arith, nat_tests, left_none, between)
 
 -- a frame is read, with its check sequence or without
-read_ok : (fcs : Bool) (frame bytes : List ℕ) → IsRecordedAs fcs frame bytes → has_four_more frame ≡ false
-    → (if fcs then checked bytes else unchecked bytes) ≡ Ok frame
+read_ok : (fcs told : Bool) (frame bytes : List ℕ) → IsRecordedAs fcs frame bytes → has_four_more frame ≡ false
+    → (if fcs then checked bytes else (if told then Ok bytes else unchecked bytes)) ≡ Ok frame
 unfolding checked unchecked
-read_ok fcs frame bytes is short = grind (arith, nat_tests, length-append, drop_at, take_at)
+read_ok fcs told frame bytes is short = grind (arith, nat_tests, length-append, drop_at, take_at)
 
 module _ (plan : Plan) (k sub : ℕ) (net : Net) (sent : Sent) (place start number : ℕ) (joining : Joining) (valid : IsPlan plan)
     (within : k < length plan.links) (on : names net (link_plan_at plan.links k).networks ≡ true)
@@ -114,7 +114,7 @@ module _ (plan : Plan) (k sub : ℕ) (net : Net) (sent : Sent) (place start numb
   sized : size_deviation (link_plan_at plan.links k) (length frame) ≡ None
   sized = let link = link_is.lmax in grind (arith, nat_tests, size_is, next)
 
-  admitted : (options : Options) (packet : Recorded) → options.arinc ≡ false → IsRecordedAs options.fcs frame packet.bytes
+  admitted : (options : Options) (packet : Recorded) → options.arinc ≡ false → IsRecordedAs (has_check options packet) frame packet.bytes
       → packet.original ≡ length packet.bytes → frame_in options packet ≡ Ok frame
   unfolding frame_in
   admitted options packet own recorded whole = grind (arith, nat_tests, says, port_is, its_piece, layout_is_profile, total_ok, size_is, read_ok)

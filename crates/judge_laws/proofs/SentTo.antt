@@ -1,6 +1,6 @@
 -- Nothing missed: findings only grow, so where none is found in the end, no packet has one, each line is clear, and what was
 -- recorded of each network was sent legally.
-use Rattle.judge_laws.proofs.Names.{nat_eq, layout_broken, layout_is_profile, Admitted, All, AllZip, AllZip-long, IsExplained, IsReleased, delay_after, if◌then◌else◌, ◌*◌, All-cons, All-nil, All-tail, AreKnown, Bool, Entry, Finding, IsAllowed, IsKnown, IsPlan, Judging, Link, LinkPlan, List, Nearness, Net, None, Ok, OnNet, Option, Options, Plan, PortPlan, Recorded, Refused, Result, Sent, Setting, Some, Tag, Times, admitted, after_packet, ap, append-nil, arith, arrived, blanked, cases_Bool, cases_eq, cases_lt, eq-eqb, false, filter, findings, found_at_end, found_from, found_left, found_missing, found_of_arrival, found_on_link, found_timed, found_with_end, found_with_packet, fragments, frame_in, get_or, inl, inr, length, length-filter_both, length-map, length-replicate, length-set, line_on, link_at, link_in, link_plan_at, link_stream, map, map-map, names, nat_tests, ne_eqb, new_line, new_link, new_sub, nil_begins, no_times, not, place_of, placed, refl, room_of, same_net, size_deviation, sub_in, sub_stream, subst, suc, sym, tag_of, those_with, times_with, told, true, unchecked, verdict, with_map, with_verdict, zero, ℕ, [], ◌+◌, ◌-◌, ◌<◌, ◌^◌, ◌∙◌, ◌∷◌, ◌≡◌, ◌≤◌, packets_of, time_of, EndsWhole, IsOctets, IsSentTo, IsStrict, NothingMissed, entry_of, frames_of, sent_to}
+use Rattle.judge_laws.proofs.Names.{AreUnchecked, has_check, nat_eq, layout_broken, layout_is_profile, Admitted, All, AllZip, AllZip-long, IsExplained, IsReleased, delay_after, if◌then◌else◌, ◌*◌, All-cons, All-nil, All-tail, AreKnown, Bool, Entry, Finding, IsAllowed, IsKnown, IsPlan, Judging, Link, LinkPlan, List, Nearness, Net, None, Ok, OnNet, Option, Options, Plan, PortPlan, Recorded, Refused, Result, Sent, Setting, Some, Tag, Times, admitted, after_packet, ap, append-nil, arith, arrived, blanked, cases_Bool, cases_eq, cases_lt, eq-eqb, false, filter, findings, found_at_end, found_from, found_left, found_missing, found_of_arrival, found_on_link, found_timed, found_with_end, found_with_packet, fragments, frame_in, get_or, inl, inr, length, length-filter_both, length-map, length-replicate, length-set, line_on, link_at, link_in, link_plan_at, link_stream, map, map-map, names, nat_tests, ne_eqb, new_line, new_link, new_sub, nil_begins, no_times, not, place_of, placed, refl, room_of, same_net, size_deviation, sub_in, sub_stream, subst, suc, sym, tag_of, those_with, times_with, told, true, unchecked, verdict, with_map, with_verdict, zero, ℕ, [], ◌+◌, ◌-◌, ◌<◌, ◌^◌, ◌∙◌, ◌∷◌, ◌≡◌, ◌≤◌, packets_of, time_of, EndsWhole, IsOctets, IsSentTo, IsStrict, NothingMissed, entry_of, frames_of, sent_to}
 use Rattle.judge_laws.proofs.Begin.{line_is_new, links_at_start, new_is, own_options}
 use Rattle.judge_laws.proofs.Line.{IsFaultless, faultless, line_then, measure_at, of_profile}
 use Rattle.judge_laws.proofs.Message.{port_at}
@@ -46,7 +46,7 @@ grows (p ∷ ps) j found none = timed_none p.net p.number p.packet j found p.pac
 -- ---- a packet
 
 -- its frame is the packet whole, and of the layout
-frame_says : (options : Options) (packet : Recorded) (frame : List ℕ) → options.fcs ≡ false → frame_in (of_profile options) packet ≡ Ok frame
+frame_says : (options : Options) (packet : Recorded) (frame : List ℕ) → has_check options packet ≡ false → frame_in (of_profile options) packet ≡ Ok frame
     → (frame ≡ packet.bytes) × (layout_broken false packet.bytes ≡ None)
 unfolding frame_in unchecked
 frame_says options packet frame plain is = grind (arith, nat_tests, cases_Bool)
@@ -72,7 +72,7 @@ admitted_says : (plan : Plan) (net : Net) (frame : Result (List ℕ) Refused) (i
 admitted_says plan net frame it is = grind (arith, nat_tests)
 
 pub packet_silent : (plan : Plan) (options : Options) (times : Times) (links : List Link) (net : Net) (number : ℕ) (packet : Recorded)
-    → options.fcs ≡ false → found_with_packet net number packet (judge_of plan options times false links) [] ≡ []
+    → has_check options packet ≡ false → found_with_packet net number packet (judge_of plan options times false links) [] ≡ []
     → IsPacketSilent plan options times links net number packet
 unfolding found_with_packet admitted
 packet_silent plan options times links net number packet plain none =
@@ -198,7 +198,7 @@ pub record AreSilent (plan : Plan) (options : Options) (links : List Link) (ps :
       → AreClear plan k options net (line_on net (link_at links k)) (own_packets plan k (list net))
   pub placed : (net : Net) → All (IsPlacedAt plan net) (list net)
 
-pub are_silent : (plan : Plan) (options : Options) (times : Times) (links : List Link) (ps : List OnNet) → IsPlan plan → options.fcs ≡ false
+pub are_silent : (plan : Plan) (options : Options) (times : Times) (links : List Link) (ps : List OnNet) → IsPlan plan → AreUnchecked options ps
     → length links ≡ length plan.links → All (λ (p : OnNet). IsOctets p.packet) ps
     → found_from ps (judge_of plan options times false links) [] ≡ [] → AreSilent plan options links ps
 are_silent plan options times links [] valid plain size octets none = record {
@@ -210,12 +210,12 @@ are_silent plan options times links [] valid plain size octets none = record {
 are_silent plan options times links (p ∷ ps) valid plain size octets none =
     let j : Judging = judge_of plan options times false links in
     let first = grows ps (after_packet p.net p.number p.packet j) (found_with_packet p.net p.number p.packet j []) none in
-    let q = packet_silent plan options times links p.net p.number p.packet plain first in
+    let q = packet_silent plan options times links p.net p.number p.packet (plain 0 p (omega arith)) first in
     let its : IsOctets p.packet = octets 0 p (omega arith) in
     let now : List Link = links_now plan options times links p.net p.number p.packet valid size its q in
     let r : Recorded = let_go plan options times links p.net p.number p.packet valid size its q in
     let after = after_is plan options times false links p.net p.number q.at p.packet p.packet.bytes q.k q.timed q.whole q.placed in
-    let later = are_silent plan options (times_with p.net q.at times) now ps valid plain (length-set links q.k _ ∙ size)
+    let later = are_silent plan options (times_with p.net q.at times) now ps valid (All-tail (λ (p : OnNet). has_check options p.packet ≡ false) p ps plain) (length-set links q.k _ ∙ size)
     (All-tail (λ (p : OnNet). IsOctets p.packet) p ps octets) (next_none ps _ _ _ after first none) in
     record {
       list = list_with p.net r later.list;

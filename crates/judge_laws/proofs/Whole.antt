@@ -33,7 +33,7 @@ in_order_all latest (p ∷ ps) order = All-cons (λ (q : OnNet). latest ≤ time
 open_zip : (origin latest : ℕ) (options : Options) (es : List Entry) (rs : List Recorded) → All (λ (r : Recorded). latest ≤ time_of r) rs
     → AllZip (IsRecord origin options) es rs → AreOpen origin options.jitter latest es
 open_zip origin latest options es rs times zip = λ i spare inside.
-    let spare' : Recorded = record { interface = 0; network = None; at = None; original = 0; bytes = [] } in
+    let spare' : Recorded = record { interface = 0; network = None; at = None; original = 0; bytes = []; fcs = None } in
     let both = AllZip-long (IsRecord origin options) es rs zip in
     let of = zip_at (IsRecord origin options) es rs i spare spare' zip (omega arith) in
     omega (arith, times i spare' (omega arith), time_is (get_or rs i spare') of.at of.told, of.most)

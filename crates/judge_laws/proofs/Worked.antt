@@ -1,5 +1,5 @@
 -- The worked recordings, by computation.
-use Rattle.judge_laws.proofs.Names.{A, All, All-filter, All-from_recursion, All-tail, AllZip, B, Bool, Entry, Finding, List, Missing, Net, None, OnNet, Options, end_broken, addresses, admitted, after_packet, arith, check_sequence, checked, checksum, datagram, demo_plan, demo_valid, entry, fails_by, false, fields_of, found_at_end, found_missing, found_of_arrival, found_on_link, found_with_end, found_with_packet, fragment_deviation, frame_in, head_now, header_front, internet_broken, internet_header, layout_broken, left_waiting, length_deviation, line_after, line_with, link_after, link_broken, link_header, link_in, link_stream, list_all, map, message_deviation, more_in, nat_eq, nat_lt, nat_tests, needs_legal, one_frame, pair_at, pairing_with, place_of, refl, second_frame, slice_index, sub_in, sub_stream, suc, true, twin_deviation, twin_other, two_accepted, two_entries, udp_header, unchecked, unnumbered, verdict, with_arrival, with_byte, with_verdict, word_at, zero, ℕ, [], ◌*◌, ◌+◌, ◌<◌, ◌∷◌, ◌≡◌, ◌≤◌, AreFit, IsRecord, IsRecording, IsRunOf, IsSent, IsWhole, EndsWhole, IsOctets, IsReleased, IsSentTo, IsStrict, half_gap, packets_of, sent_to, FindsNoneOfAll, FindsNothing, MissesNothing, NeedsItsPremises, both_at, apart_by_100, behind, from, late, loose, packet, seconds_at, strict, with_check, with_skew}
+use Rattle.judge_laws.proofs.Names.{has_check, A, All, All-filter, All-from_recursion, All-tail, AllZip, B, Bool, Entry, Finding, List, Missing, Net, None, OnNet, Options, end_broken, addresses, admitted, after_packet, arith, check_sequence, checked, checksum, datagram, demo_plan, demo_valid, entry, fails_by, false, fields_of, found_at_end, found_missing, found_of_arrival, found_on_link, found_with_end, found_with_packet, fragment_deviation, frame_in, head_now, header_front, internet_broken, internet_header, layout_broken, left_waiting, length_deviation, line_after, line_with, link_after, link_broken, link_header, link_in, link_stream, list_all, map, message_deviation, more_in, nat_eq, nat_lt, nat_tests, needs_legal, one_frame, pair_at, pairing_with, place_of, refl, second_frame, slice_index, sub_in, sub_stream, suc, true, twin_deviation, twin_other, two_accepted, two_entries, udp_header, unchecked, unnumbered, verdict, with_arrival, with_byte, with_verdict, word_at, zero, ℕ, [], ◌*◌, ◌+◌, ◌<◌, ◌∷◌, ◌≡◌, ◌≤◌, AreFit, IsRecord, IsRecording, IsRunOf, IsSent, IsWhole, EndsWhole, IsOctets, IsReleased, IsSentTo, IsStrict, half_gap, packets_of, sent_to, FindsNoneOfAll, FindsNothing, MissesNothing, NeedsItsPremises, both_at, apart_by_100, behind, from, late, loose, packet, seconds_at, strict, with_check, with_skew}
 use Rattle.judge_laws.proofs.Begin.{no_false_alarm_holds}
 
 pair_sent : IsSent demo_plan two_accepted (two_entries A) (two_entries B)
@@ -86,6 +86,9 @@ ends net = grind (arith, nat_tests)
 abbrev IsOf : OnNet → Type 0
 IsOf p = IsOctets p.packet
 
+abbrev pub IsBare : OnNet → Type 0
+IsBare p = has_check strict p.packet ≡ false
+
 abbrev IsShort : Entry → Type 0
 IsShort e = more_in e.frame ≡ false
 
@@ -95,7 +98,7 @@ strict_is = record {
   valid = demo_valid;
   profile = refl;
   early = refl;
-  fcs = refl;
+  fcs = All-from_recursion IsBare (both_at 7 1000007) (refl, (refl, (refl, (refl, tt))));
   few = omega arith;
   octets = All-from_recursion IsOf (both_at 7 1000007) (
     octets B 7 (one_frame B) refl (omega arith),

@@ -1,7 +1,8 @@
 -- The worked recordings of the law of wanted twins, by computation and by the law.
-use Rattle.judge_laws.proofs.Names.{A, B, OnNet, addresses, admitted, after_packet, apart, arith, check_sequence, checked, checksum, datagram, demo_plan, demo_valid, end_broken, false, fields_of, findings, found_at_end, found_missing, found_of_arrival, found_on_link, found_with_end, found_with_packet, fragment_deviation, frame_in, head_now, header_front, inl, inr, internet_broken, internet_header, late, layout_broken, left_waiting, length_deviation, line_after, line_with, link_after, link_broken, link_header, message_deviation, one_frame, packet, pairing_with, place_of, refl, same_net, second_frame, strict, third_frame, IsInOrder, time_of, twin_deviation, twin_other, udp_header, unchecked, unnumbered, verdict, with_arrival, with_byte, with_verdict, [], ◌≡◌, ◌≤◌, begun_later, middle, three_on_both, turned, FindsTwins, NeedsTheTime, IsCommon, IsOnBoth}
+use Rattle.judge_laws.proofs.Names.{A, All-from_recursion, B, OnNet, addresses, admitted, after_packet, apart, arith, check_sequence, checked, checksum, datagram, demo_plan, demo_valid, end_broken, false, fields_of, findings, found_at_end, found_missing, found_of_arrival, found_on_link, found_with_end, found_with_packet, fragment_deviation, frame_in, head_now, header_front, inl, inr, internet_broken, internet_header, late, layout_broken, left_waiting, length_deviation, line_after, line_with, link_after, link_broken, link_header, message_deviation, one_frame, packet, pairing_with, place_of, refl, same_net, second_frame, strict, third_frame, IsInOrder, time_of, twin_deviation, twin_other, udp_header, unchecked, unnumbered, verdict, with_arrival, with_byte, with_verdict, [], ◌≡◌, ◌≤◌, begun_later, middle, three_on_both, turned, FindsTwins, NeedsTheTime, IsCommon, IsOnBoth}
 use Rattle.judge_laws.proofs.Following.{twins_wanted_holds}
 use Rattle.judge_laws.proofs.Wanted.{IsIn, contains_in}
+use Rattle.judge_laws.proofs.Worked.{IsBare}
 
 nothing_in_three : findings demo_plan strict three_on_both ≡ []
 unfolding admitted after_packet found_of_arrival found_on_link found_with_end found_with_packet link_after
@@ -59,7 +60,8 @@ finds_twins = record {
   order = three_in_order;
   nothing = nothing_in_three;
   common = middle_common;
-  twin = twins_wanted_holds demo_plan strict three_on_both middle demo_valid refl refl three_in_order nothing_in_three
+  twin = twins_wanted_holds demo_plan strict three_on_both middle demo_valid refl
+      (All-from_recursion IsBare three_on_both (refl, (refl, (refl, (refl, (refl, (refl, tt))))))) three_in_order nothing_in_three
       (2, omega arith, refl) middle_on middle_common;
 }
 

@@ -12,6 +12,7 @@ use Rattle.afdx_legal.specs.Streams.{TakeTurns}
 use Rattle.capture.specs.Recording.{Recorded}
 use Rattle.judge.specs.Judging.{OnNet, findings}
 use Rattle.judge.specs.Merging.{time_of}
+use Rattle.judge.specs.Rules.{has_check}
 use Rattle.judge.specs.Twins.{apart, same_net}
 use Rattle.judge.specs.declared.finding.Finding.{Finding}
 use Rattle.judge.specs.declared.finding.FindingKind.TheVariants.{Missing}
@@ -33,7 +34,7 @@ pub record IsRecord (origin : ℕ) (options : Options) (e : Entry) (packet : Rec
   pub least : origin + 1000 * e.at ≤ at
   pub most : at ≤ origin + 1000 * (e.at + options.jitter)
   pub whole : packet.original ≡ length packet.bytes
-  pub bytes : IsRecordedAs options.fcs e.frame packet.bytes
+  pub bytes : IsRecordedAs (has_check options packet) e.frame packet.bytes
 
 -- the packets of a network, in order
 abbrev pub packets_of : Net → List OnNet → List Recorded

@@ -10,6 +10,7 @@ use Rattle.afdx_legal.specs.Legal.{Accepted, IsLegalOn}
 use Rattle.afdx_legal.specs.Streams.{TakeTurnsOn, link_stream, more_in, sub_stream}
 use Rattle.capture.specs.Recording.{Recorded}
 use Rattle.judge.specs.Judging.{OnNet, findings}
+use Rattle.judge.specs.Rules.{has_check}
 use Rattle.judge.specs.declared.judge.Options.{Options}
 use Rattle.judge_laws.specs.NoFalseAlarm.{packets_of}
 use Rattle.judge_laws.specs.NothingFound.{time_of}
@@ -37,12 +38,16 @@ EndsWhole [] = Unit {0}
 EndsWhole (f ∷ []) = more_in f ≡ false
 EndsWhole (f ∷ (g ∷ fs)) = EndsWhole (g ∷ fs)
 
+-- no frame was recorded with its check sequence
+abbrev pub AreUnchecked : Options → List OnNet → Type 0
+AreUnchecked options recording = All (λ (p : OnNet). has_check options p.packet ≡ false) recording
+
 -- A judge of a recording from the first frame on, to the end of each message.
 pub record IsStrict (plan : Plan) (options : Options) (recording : List OnNet) : Type 0 where
   pub valid : IsPlan plan
   pub profile : options.arinc ≡ false
   pub early : options.late ≡ false
-  pub fcs : options.fcs ≡ false
+  pub fcs : AreUnchecked options recording
   pub few : length recording < 2 ^ 64 - 1
   pub octets : All (λ (p : OnNet). IsOctets p.packet) recording
   pub whole : (net : Net) (vl sub : ℕ) → EndsWhole (frames_of vl sub (sent_to net recording))

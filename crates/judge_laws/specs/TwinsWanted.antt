@@ -7,6 +7,7 @@ use Rattle.judge.specs.Judging.{OnNet, findings}
 use Rattle.judge.specs.Twins.{apart, same_net}
 use Rattle.judge.specs.declared.judge.Options.{Options}
 use Rattle.judge_laws.specs.NothingFound.{IsInOrder, time_of}
+use Rattle.judge_laws.specs.NothingMissed.{AreUnchecked}
 
 -- a frame belongs to a link on both networks
 pub record IsOnBoth (plan : Plan) (frame : List ℕ) : Type 0 where
@@ -43,6 +44,6 @@ pub record HasTwin (options : Options) (recording : List OnNet) (p : OnNet) : Ty
 -- network was recorded in the time in which it can come.
 abbrev pub TwinsWanted : Type 0
 TwinsWanted = (plan : Plan) (options : Options) (recording : List OnNet) (p : OnNet) → IsPlan plan
-    → options.arinc ≡ false → options.fcs ≡ false → IsInOrder 0 recording → findings plan options recording ≡ []
-    → Contains recording p → IsOnBoth plan p.packet.bytes → IsCommon options recording p
-    → HasTwin options recording p
+    → options.arinc ≡ false → AreUnchecked options recording → IsInOrder 0 recording
+    → findings plan options recording ≡ [] → Contains recording p → IsOnBoth plan p.packet.bytes
+    → IsCommon options recording p → HasTwin options recording p

@@ -24,7 +24,7 @@ abbrev pub packet : Net → ℕ → List ℕ → OnNet
 packet net at frame = record {
   net = net;
   number = 1;
-  packet = record { interface = 0; network = None; at = Some at; original = length frame; bytes = frame };
+  packet = record { interface = 0; network = None; at = Some at; original = length frame; bytes = frame; fcs = None };
 }
 
 -- the two frames on both networks, at these times in nanoseconds, network B first

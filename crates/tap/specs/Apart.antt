@@ -39,6 +39,7 @@ packet_of s = record {
     at = Some 0;
     original = 60;
     bytes = 3 ∷ 0 ∷ 0 ∷ 0 ∷ 0 ∷ 1 ∷ 2 ∷ 0 ∷ 0 ∷ 0 ∷ s ∷ 32 ∷ [];
+    fcs = None;
   };
 }
 
