@@ -17,6 +17,7 @@
 
 #include <cstddef>
 #include <cstdint>
+#include <initializer_list>
 #include <memory>
 #include <stdexcept>
 #include <string>
@@ -113,6 +114,9 @@ struct BadCapture : Error {
     afdx_judged judged;
 };
 
+/* The recorder of a capture lost packets, so the recording isn't whole; `lost` tells how many. */
+struct LostPackets : BadCapture { using BadCapture::BadCapture; };
+
 namespace detail {
 
 /* Throws the exception of a number that a call returned, if it isn't AFDX_OK. */
@@ -191,8 +195,22 @@ inline void want_plan(std::uint8_t answer, const std::string &text) {
     want(answer, AFDX_CALL_OPEN);
 }
 
-/* Judges by a plan and a call that is passed room for findings. */
-template <typename Call> std::vector<afdx_finding> judged(const std::string &plan, Call call) {
+} // namespace detail
+
+/* How many packets the recorder of a capture lost, as it told, up to where the capture may be cut off or malformed.
+   Throws OutOfMemory. */
+inline std::uint64_t lost(const std::string &capture) {
+    std::uint64_t count = 0;
+    const std::uint8_t answer = afdx_capture_lost(detail::bytes_of(capture), capture.size(), &count);
+    if (answer != AFDX_BAD_CAPTURE) detail::want(answer);
+    return count;
+}
+
+namespace detail {
+
+/* Judges captures by a plan and a call that is passed room for findings. */
+template <typename Call>
+std::vector<afdx_finding> judged(const std::string &plan, std::initializer_list<const std::string *> captures, Call call) {
     std::vector<afdx_finding> findings;
     afdx_judged judged = afdx_judged();
     std::uint8_t answer = call(findings.data(), findings.size(), &judged);
@@ -202,16 +220,18 @@ template <typename Call> std::vector<afdx_finding> judged(const std::string &pla
     }
     if (answer == AFDX_BAD_CAPTURE) throw BadCapture(std::move(findings), judged);
     want_plan(answer, plan);
+    for (const std::string *capture : captures)
+        if (lost(*capture) > 0) throw LostPackets(std::move(findings), judged);
     return findings;
 }
 
 } // namespace detail
 
 /* What is wrong with a capture of both networks, by the text of a plan: nothing, if it keeps it. Throws
-   ConfigError, BadCapture or OutOfMemory. */
+   ConfigError, BadCapture, LostPackets or OutOfMemory. */
 inline std::vector<afdx_finding> judge(const std::string &plan, const std::string &capture,
                                        const afdx_judge_options &options) {
-    return detail::judged(plan, [&](afdx_finding *findings, std::size_t room, afdx_judged *judged) {
+    return detail::judged(plan, {&capture}, [&](afdx_finding *findings, std::size_t room, afdx_judged *judged) {
         return afdx_judge(detail::bytes_of(plan), plan.size(), &options, detail::bytes_of(capture), capture.size(),
                           findings, room, judged);
     });
@@ -220,7 +240,7 @@ inline std::vector<afdx_finding> judge(const std::string &plan, const std::strin
 /* The same of a capture of network A and one of network B. */
 inline std::vector<afdx_finding> judge(const std::string &plan, const std::string &a, const std::string &b,
                                        const afdx_judge_options &options) {
-    return detail::judged(plan, [&](afdx_finding *findings, std::size_t room, afdx_judged *judged) {
+    return detail::judged(plan, {&a, &b}, [&](afdx_finding *findings, std::size_t room, afdx_judged *judged) {
         return afdx_judge_pair(detail::bytes_of(plan), plan.size(), &options, detail::bytes_of(a), a.size(),
                                detail::bytes_of(b), b.size(), findings, room, judged);
     });

@@ -90,7 +90,8 @@ fi
 # An archive of the calls that read no text and no recording, without the calls for memory, which a partition has.
 (cd "$room" && ${AR:-ar} x "$OLDPWD/crates/afdx/out/$archive" && mkdir core
     ${NM:-nm} -g --defined-only ./afdx*.o | sed -n 's/.* T \(afdx_.*\)$/-u \1/p' |
-        grep -v -x -e '-u afdx_open' -e '-u afdx_explain' -e '-u afdx_script_line' -e '-u afdx_judge' -e '-u afdx_judge_pair' > core/calls
+        grep -v -x -e '-u afdx_open' -e '-u afdx_explain' -e '-u afdx_script_line' -e '-u afdx_judge' \
+            -e '-u afdx_judge_pair' -e '-u afdx_capture_lost' > core/calls
     ${LD:-ld} -r --gc-sections $(cat core/calls) ./afdx*.o -o core/afdx_core.o
     ${AR:-ar} rcs libafdx_core.a core/afdx_core.o)
 

@@ -246,7 +246,7 @@ def try_bare(tried):
     if tried.show("without a C library", made, ""):
         tried.show("without a C library: it runs", tried.ran(["./bare"]), ONE_FRAME)
     listed = tried.ran(["nm", "-g", f"{tried.prefix}/lib/libafdx_core.a"]).stdout
-    text = {name for name in ("open", "explain", "script_line", "judge", "judge_pair") if re.search(rf" T afdx_{name}$", listed, re.MULTILINE)}
+    text = {name for name in ("open", "explain", "script_line", "judge", "judge_pair", "capture_lost") if re.search(rf" T afdx_{name}$", listed, re.MULTILINE)}
     wanted = {"memcpy", "memmove", "memset", "rattle_alloc", "rattle_dealloc", "rattle_realloc"}
     imports = set(re.findall(r" U (\w+)", listed)) - {"__udivti3"}
     tried.tries.show("libafdx_core.a: what it has and imports", [] if not text and imports == wanted else [f"{text}, {imports}"])

@@ -214,6 +214,7 @@ def judging() -> None:
     found = afdx.judge(DEMO, on_a, on_b)
     check(found == [("Missing", "", 2, A, 10**9, 1, 1, 0), ("Number", "", 2, B, 2 * 10**9, 1, 2, 1)], found)
     check([f"{it}" for it in found] == ["2 A 1.000000000 vl 1 Missing: seen 1", "2 B 2.000000000 vl 1 Number: seen 2, wanted 1"])
+    lossy(on_a)
     told = raises(afdx.Toml, afdx.judge, "[", sent)
     check(told == f"{afdx.Toml.__doc__}\n{afdx.explain('[')}".rstrip("\n"), told)
     check(raises(afdx.BadCapture, afdx.judge, DEMO, sent, b"").endswith("\ncapture 1: 1 packets\ncapture 2: 0 packets, cut off at byte 0"))
@@ -223,6 +224,25 @@ def judging() -> None:
     many = header + bytes(16) * 4_000_000
     with no_more_memory():
         raises(afdx.OutOfMemory, afdx.judge, DEMO, many)
+        raises(afdx.OutOfMemory, afdx.lost, many)
+
+
+def lossy(whole: bytes) -> None:
+    """A recording whose recorder lost packets isn't judged as if it were whole, on whichever network that was."""
+    import losses
+    check(afdx.lost(whole) == 0)
+    for name, data, count in losses.all_examples():
+        check(afdx.lost(data) == count, name)
+        for captures in ((data,), (data, whole), (whole, data)):
+            if count:
+                line = raises(afdx.LostPackets, afdx.judge, DEMO, *captures).splitlines()[1 + captures.index(data)]
+                check(line.endswith(f" packets, {count} lost by the recorder"), f"{name}: {line}")
+            else:
+                afdx.judge(DEMO, *captures)
+    cut = losses.all_examples()[3][1] + b"\n"
+    told = raises(afdx.BadCapture, afdx.judge, DEMO, cut)
+    check(told.startswith(f"{afdx.BadCapture.__doc__}") and afdx.lost(cut) == 16, told)
+    check(told.endswith(f", 16 lost by the recorder, cut off at byte {len(cut) - 1}"), told)
 
 
 def bytes_like() -> None:

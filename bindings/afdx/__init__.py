@@ -36,12 +36,13 @@ from ._findings import Finding, captured_of, finding_of
 from ._library import BytesLike, FindingRow, FrameRelease, Handle, Judged, JudgeOptions, LinkCounts, bytes_of, fits, lib, want
 from .errors import *
 from .errors import (
-    CONFIG_ERRORS, POLL_ERRORS, SEND_ERRORS, TABLE_ERRORS, AfdxError, BadCapture, ConfigError, Full, NotHeld, OutOfMemory, SmallBuffer,
+    CONFIG_ERRORS, JUDGE_ERRORS, POLL_ERRORS, SEND_ERRORS, TABLE_ERRORS, AfdxError, BadCapture, ConfigError, Full, LostPackets, NotHeld,
+    OutOfMemory, SmallBuffer,
 )
 
 __all__ = [
     "A", "B", "GREATEST_FRAME", "MOST_FRAMES", "MOST_LINKS", "MOST_PORTS", "NEVER", "BytesLike", "Counts", "EndSystem",
-    "File", "Finding", "Poll", "Port", "Released", "explain", "judge", "library_version", "memory",
+    "File", "Finding", "Poll", "Port", "Released", "explain", "judge", "library_version", "lost", "memory",
 ]
 __all__ += errors.__all__
 __version__ = "2.1.0"
@@ -97,7 +98,7 @@ def judge(
     """What is wrong with a recording of an end system, by its plan (docs/guide/judge.md): nothing, if it keeps it. A
     capture is pcapng or pcap, its bytes or its path; with two, the first is of network A and the second of B. `jitter` and
     `skew` are in microseconds; `arinc` is for the frames of other makers. A finding prints itself. Raises `ConfigError`,
-    `BadCapture` (with what was found) or `OutOfMemory`."""
+    `BadCapture` (with what was found), `LostPackets` (so too) if a recorder lost packets, or `OutOfMemory`."""
     text, how = _plan(plan), JudgeOptions(fits(jitter, 64), fits(skew, 64), late, fcs, arinc)
     captures = [_read(it) for it in (capture, capture_b) if it is not None]
     words = [word for data in captures for word in (data, len(data))]
@@ -109,10 +110,22 @@ def judge(
     if answer != BadCapture.number:
         _want_plan(answer, text)
     found = [finding_of(row) for row in rows[: judged.findings]]
-    if answer:
-        seen = enumerate((judged.a, judged.b)[: len(captures)], 1)
-        raise BadCapture("\n".join(captured_of(number, row) for number, row in seen), found)
+    counts = [*map(lost, captures)]
+    if answer or any(counts):
+        seen = enumerate(zip((judged.a, judged.b), counts), 1)
+        told = "\n".join(captured_of(number, row, count) for number, (row, count) in seen)
+        raise (BadCapture if answer else LostPackets)(told, found)
     return found
+
+
+def lost(capture: File) -> int:
+    """How many packets the recorder of a capture lost, as it told, up to where the capture may be cut off or malformed
+    (docs/guide/judge.md); `judge` raises `LostPackets` if any. A capture is its bytes or its path. Raises `OutOfMemory`."""
+    data, count = _read(capture), c_uint64()
+    answer = lib.afdx_capture_lost(data, len(data), byref(count))
+    if answer != BadCapture.number:
+        want(answer, JUDGE_ERRORS)
+    return count.value
 
 
 def library_version() -> str:

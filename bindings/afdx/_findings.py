@@ -56,9 +56,10 @@ def finding_of(row: FindingRow) -> Finding:
     return Finding(kind, rule, row.packet, row.network, row.at, vl, row.seen, row.wanted)
 
 
-def captured_of(number: int, row: Captured) -> str:
+def captured_of(number: int, row: Captured, lost: int) -> str:
     """What was read of a capture, as `afdx_bench judge` prints it."""
     ends = ["", f", cut off at byte {row.at}", *(f", malformed at byte {row.at}: {fault}" for fault in FAULTS)]
     no_captures = {"Format": ", neither pcapng nor pcap", "LinkType": f", another link type at byte {row.at}"}
     fault = FAULTS[row.end - 2] if row.end > 1 else ""
-    return f"capture {number}: {row.packets} packets{no_captures.get(fault, ends[row.end])}"
+    losses = f", {lost} lost by the recorder" if lost else ""
+    return f"capture {number}: {row.packets} packets{losses}{no_captures.get(fault, ends[row.end])}"

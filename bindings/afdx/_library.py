@@ -74,6 +74,7 @@ def _calls(library: ctypes.CDLL) -> None:
         "explain": [ctypes.c_char_p, size, c_void_p, size, POINTER(size)],
         "judge": [*data, POINTER(JudgeOptions), *data, *rows],
         "judge_pair": [*data, POINTER(JudgeOptions), *data, *data, *rows],
+        "capture_lost": [*data, POINTER(c_uint64)],
         "port_of": [handle, c_uint16, handle],
         "send": [handle, ctypes.c_char_p, size],
         "accepted": [handle, POINTER(c_uint64)],

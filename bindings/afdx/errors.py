@@ -12,7 +12,7 @@ __all__ = [
     "SharedUnicast", "Limit", "TableError", "NoTable", "OtherLayout", "WrongLength", "WrongSum", "WrongValue", "SendError", "Empty", "TooLong", "Closed", "Exhausted", "Full", "PollError",
     "BothDown", "Misuse", "NotHeld", "WrongHandle", "Held", "TimeBack", "NoPort", "NoSub", "NoLink",
     "NoNetwork", "NoFrame", "SmallBuffer", "PortMissing", "Gathered", "NotGathered", "JudgeError",
-    "BadCapture", "CONFIG_ERRORS", "TABLE_ERRORS", "SEND_ERRORS", "POLL_ERRORS", "JUDGE_ERRORS", "MISUSES",
+    "BadCapture", "LostPackets", "CONFIG_ERRORS", "TABLE_ERRORS", "SEND_ERRORS", "POLL_ERRORS", "JUDGE_ERRORS", "MISUSES",
 ]
 
 
@@ -294,6 +294,10 @@ class BadCapture(JudgeError):
         """The text has a line for each capture, and `findings` what was found."""
         super().__init__(more)
         self.findings = [*findings]
+
+
+class LostPackets(BadCapture):
+    """The recorder of a capture lost packets, so the recording isn't whole."""
 
 
 Errors = dict[int, type[AfdxError]]

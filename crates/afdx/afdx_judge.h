@@ -121,6 +121,16 @@ uint8_t afdx_judge_pair(const uint8_t *plan, size_t plan_length, const afdx_judg
                         size_t a_length, const uint8_t *b, size_t b_length, afdx_finding *findings, size_t room,
                         afdx_judged *judged);
 
+/** Tells how many packets the recorder of a capture lost, as its blocks say: the greater of what the packets and the
+   statistics of each interface tell, summed over all interfaces. After a loss, a missing frame may be the recorder's
+   fault, so the findings of afdx_judge prove nothing. Allocates 80 bytes for each packet, and frees them.
+   @param capture the bytes of the capture, pcapng or pcap
+   @param length its length in bytes
+   @param lost the number of packets that were lost up to the end of the reading, 0 if the capture tells of none
+   @return AFDX_OK: the capture was read to its end. Refused: AFDX_BAD_CAPTURE: it is cut off or malformed, and `lost` has
+   the number up to there; AFDX_MEMORY, with nothing written */
+uint8_t afdx_capture_lost(const uint8_t *capture, size_t length, uint64_t *lost);
+
 /** The words that afdx_bench judge prints of a finding's kind and rule, as "Number" or "Frame Padding".
    @param finding the finding
    @return the words */

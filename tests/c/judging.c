@@ -125,6 +125,31 @@ static void check_memory(void) {
     CHECK(fails > 20 && judged.findings == 0 && judged.b.packets == 19);
 }
 
+/* What the recorder of a capture lost, on both interfaces, also of one that is cut off or malformed, or if memory fails. */
+static void check_losses(void) {
+    static const uint32_t blocks_of[] = {
+        0x0a0d0d0a, 28, 0x1a2b3c4d, 1, 0xffffffff, 0xffffffff, 28,      /* a section */
+        1, 20, 1, 0, 20, 1, 20, 1, 0, 20,                               /* two interfaces of Ethernet */
+        6, 44, 0, 0, 0, 0, 0, 0x00080004, 3, 0, 44,                     /* three packets were lost before one on the first */
+        6, 44, 1, 0, 0, 0, 0, 0x00080004, 5, 0, 44,                     /* and five on the second */
+    };
+    const uint8_t *all = (const uint8_t *)blocks_of;
+    uint64_t lost = 9;
+    CHECK(afdx_capture_lost(all, sizeof blocks_of, &lost) == AFDX_OK && lost == 8);
+    CHECK(afdx_capture_lost(all, sizeof blocks_of - 1, &lost) == AFDX_BAD_CAPTURE && lost == 3);
+    CHECK(afdx_capture_lost(all, sizeof blocks_of - 44, &lost) == AFDX_OK && lost == 3);
+    CHECK(afdx_capture_lost(all, 28, &lost) == AFDX_OK && lost == 0);
+    lost = 9;
+    CHECK(afdx_capture_lost(all + 1, 60, &lost) == AFDX_BAD_CAPTURE && lost == 0);
+    lost = 9;
+    CHECK(afdx_capture_lost(NULL, 0, &lost) == AFDX_BAD_CAPTURE && lost == 0);
+    lost = 9;
+    refused_in = 0;
+    CHECK(afdx_capture_lost(all, sizeof blocks_of, &lost) == AFDX_MEMORY && lost == 9);
+    refused_in = -1;
+    CHECK(blocks == 0 && bytes == 0);
+}
+
 static uint8_t *read_file(const char *path, size_t *length) {
     static uint8_t files[3][1 << 22];
     static int next;
@@ -162,5 +187,6 @@ int main(int words, char **word) {
     check_findings();
     check_refused();
     check_memory();
+    check_losses();
     return end_of_checks();
 }

@@ -85,6 +85,16 @@ static void try_opening(const std::string &demo) {
     CHECK(told.size() > 11 && told.compare(told.size() - 11, 11, "and 2 more\n") == 0);
 }
 
+// Whether a call tells that the recorder of a capture lost packets.
+template <typename Call> static bool loses(Call call) {
+    try {
+        call();
+    } catch (const afdx::LostPackets &error) {
+        return error.findings.empty() && error.judged.b.end == AFDX_CAPTURE_WHOLE;
+    }
+    return false;
+}
+
 // An empty capture is cut off; a section of pcapng without interfaces has no packets.
 static void try_judging(const std::string &demo) {
     const std::string section("\n\r\r\n\x1c\0\0\0\x4d\x3c\x2b\x1a\1\0\0\0\xff\xff\xff\xff\xff\xff\xff\xff\x1c\0\0\0", 28);
@@ -102,6 +112,11 @@ static void try_judging(const std::string &demo) {
         is_thrown = error.findings.size() == 1 && error.judged.b.end == AFDX_CAPTURE_CUT_OFF;
     }
     CHECK(is_thrown);
+    // Statistics of the interface tell of two packets that it dropped.
+    const std::string statistics("\5\0\0\0\x24\0\0\0\0\0\0\0\0\0\0\0\0\0\0\0\5\0\b\0\2\0\0\0\0\0\0\0\x24\0\0\0", 36);
+    const std::string lossy = section + interface + statistics;
+    CHECK(afdx::lost(lossy) == 2 && afdx::lost(section) == 0);
+    CHECK(loses([&] { afdx::judge(demo, lossy, options); }) && loses([&] { afdx::judge(demo, section, lossy, options); }));
 }
 
 static void try_sending(const std::string &demo) {

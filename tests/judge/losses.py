@@ -75,15 +75,19 @@ def examples(order: str) -> list[tuple[str, bytes, int]]:
     ]
 
 
-def by_hand() -> list[str]:
-    """What is wrong with the losses that are told of captures in both orders, and of two sections in either order."""
-    faults, rng = [], random.Random(13)
-    plan = text_of(recorded(rng, 3).plan, rng)
+def all_examples() -> list[tuple[str, bytes, int]]:
+    """Captures in both orders, and of two sections in either order, with the number of packets that are told to be lost."""
     cases = [(name, head(order) + data, lost) for order in "<>" for name, data, lost in examples(order)]
     ones = {order: head(order) + examples(order)[3][1] for order in "<>"}
     cases += [(f"sections {a}{b}", ones[a] + ones[b], 32) for a in "<>" for b in "<>"]
-    cases += [("one interface", head("<", 1) + packet("<", 0, b"", count("<", DROP_COUNT, 1)), 1)]
-    for name, data, lost in cases:
+    return [*cases, ("one interface", head("<", 1) + packet("<", 0, b"", count("<", DROP_COUNT, 1)), 1)]
+
+
+def by_hand() -> list[str]:
+    """What is wrong with the losses that are told of these captures."""
+    faults, rng = [], random.Random(13)
+    plan = text_of(recorded(rng, 3).plan, rng)
+    for name, data, lost in all_examples():
         faults += faults_of(name, plan, [data], Options()) + faults_of(f"{name}, piped", plan, [data], Options(), is_piped=True)
         status, out, _ = run_judge(plan, [data], Options(), more=["--json"])
         it = json.loads(out)["recording"]

@@ -2,6 +2,8 @@
 use Rattle.std.specs.Prelude.{ℕ, ◌≡◌, ◌≤◌, ◌&&◌, nat_eq, nat_lt, if◌then◌else◌, Bool, List, length, map, take}
 use Rattle.afdx_config.specs.Faults.{IsPlanOf}
 use Rattle.capture.specs.Recording.{Recording, read_capture}
+use Rattle.capture.specs.declared.stop.CaptureEnd.{CaptureEnd}
+use Rattle.capture.specs.declared.stop.CaptureEnd.TheVariants.{Whole, CutOff, Broken}
 use Rattle.judge.specs.Judging.{findings}
 use Rattle.judge.specs.Merging.{from_places}
 use Rattle.judge.specs.Types.{Plan}
@@ -18,6 +20,18 @@ abbrev pub answer_of : Judged → ℕ → ℕ
 answer_of judged room =
     if nat_eq judged.a.end 0 && nat_eq judged.b.end 0
     then (if nat_lt room judged.findings then SMALL_BUFFER else DONE) else BAD_CAPTURE
+
+-- the packets that the recorder of a capture lost, as it told up to the end of the reading, and the answer
+abbrev pub lost_in : List ℕ → ℕ
+lost_in capture = (read_capture capture).lost
+
+abbrev pub ended_answer : CaptureEnd → ℕ
+ended_answer Whole = DONE
+ended_answer (CutOff place) = BAD_CAPTURE
+ended_answer (Broken place fault) = BAD_CAPTURE
+
+abbrev pub lost_answer : List ℕ → ℕ
+lost_answer capture = ended_answer (read_capture capture).end
 
 -- the number of a plan's fault, or of an allocation that failed
 abbrev pub IsRefused : ℕ → Type 0

@@ -2,7 +2,7 @@
 ghost use Rattle.std.specs.Prelude.{◌≡◌, ◌≢◌, length, map, take};
 ghost use Rattle.capture.specs.Recording.{recording_of};
 ghost use Rattle.afdx_handle.specs.Calls.{IsFaultNumber};
-ghost use Rattle.afdx_handle.specs.Judged.{IsJudged, Judges, IsRefused, answer_of};
+ghost use Rattle.afdx_handle.specs.Judged.{IsJudged, Judges, IsRefused, answer_of, lost_answer, lost_in};
 ghost use Rattle.afdx_handle.specs.Listing.{with_front};
 ghost use Rattle.afdx_handle.specs.Rows.{rule_number, row_of, captured_of, options_of};
 
@@ -177,6 +177,23 @@ fn judge_read<'a>(
     };
     write_rows(found.as_slice(), rows);
     answer_of(judged, rows.len())
+}
+
+/// Reads a capture, and writes how many packets its recorder lost, as it told up to the end of the reading. Returns
+/// `BAD_CAPTURE` if the capture isn't read to its end, or `MEMORY` if an allocation fails; then writes nothing.
+pub fn lost_into(alloc: Global, capture: &[u8], lost: &mut u64) -> u8
+    ensures lost { result ≢ MEMORY → lost.new ≡ lost_in capture.now }
+    ensures answers { result ≢ MEMORY → result ≡ lost_answer capture.now }
+    ensures unwritten { result ≡ MEMORY → lost.new ≡ lost.old }
+{
+    let Ok(read) = read_capture(alloc, capture) else {
+        return MEMORY;
+    };
+    *lost = read.lost;
+    match read.end {
+        CaptureEnd::Whole => DONE,
+        CaptureEnd::CutOff(_) | CaptureEnd::Broken(_, _) => BAD_CAPTURE,
+    }
 }
 
 /// Judges the captures `a` and `b`, each of one network alone, or only `a`, of both, by the text of a plan. Returns the

@@ -14,7 +14,7 @@ mod seal;
 pub use answer::{FrameRelease, LinkCounts, release_of};
 pub use end_system::{EndSystem, Stage, write_link_ids, write_port_ids};
 pub use handle::{Block, Handle, Home, Marked, Opening, OwnPort};
-pub use judging::{FindingRow, JudgeOptions, Judged, judge_into};
+pub use judging::{FindingRow, JudgeOptions, Judged, judge_into, lost_into};
 pub use opening::{open_home, write_front};
 pub use ports::{gather, give_to, is_nothing, keep_box, take_port};
 pub use script::{ScriptLine, VERSION, laid_out, write_message};
