@@ -396,6 +396,17 @@ def lost(ground: Ground) -> Planted:
     return Planted(ground.plan, left_over, [("Missing", "", kept)])
 
 
+def strayed(ground: Ground) -> Planted:
+    """A piece of another maker's that goes on with no message, after each sub-VL of its link has begun one."""
+    def fits(vl: int, k: int) -> bool:
+        begun = {ground.frame(vl, j).sub for j in range(k) if ground.frame(vl, j).start == 0}
+        return ground.frame(vl, k).start > 0 and len(begun) == ground.links[vl]["sub_vls"]
+
+    vl, k = ground.choose(fits)
+    ident = (half(ground.first(vl, k), 18) ^ 0x8000).to_bytes(2, "big")
+    return ground.planted("Fragment", "Offset", ground.rewrite(vl, k, lambda data: summed(put(data, 18, ident))))
+
+
 # A fault of each kind, in the order of the kinds.
 PLANTS = [broken, of_another, of_no_link, on_another, too_long, miscounted, hurried, of_no_port, misfit, misended]
 PLANTS += [out_of_turn, unlike, lost]

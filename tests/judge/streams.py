@@ -180,8 +180,10 @@ class Stream:
         return next((port for port, it in zip(self.ports, keys, strict=True) if it == key and port["sub"] in subs), None)
 
     def joined(self, piece: Piece, port: Table | None, sub: int | None) -> list[tuple[str, str, str]]:
-        """The piece after those of its sub-VL. If that isn't known, the piece begins a message, unless one may be open."""
-        other = UNKNOWN if UNKNOWN in self.joining.values() else Joining(ANY, 0)
+        """The piece after those of its sub-VL. If that isn't known, the piece begins a message, unless one may be open on a sub-VL
+        that the link has."""
+        own = [self.joining[other] for other in range(self.link["sub_vls"])]
+        other = UNKNOWN if UNKNOWN in own else Joining(ANY, 0)
         before, end = self.joining.get(sub, other), piece.start + len(piece.data)
         misfit = self.misfit(piece, before)
         message = before.message

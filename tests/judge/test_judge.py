@@ -85,6 +85,21 @@ def planted(case: tuple[int, int]) -> list[str]:
     return [f"{KINDS[kind]} {seed}: none of {TURNS} recordings has a place for the fault"]
 
 
+def known_again(seed: int) -> list[str]:
+    """What is wrong with the verdict on a piece of another maker's that goes on with no message, in a recording that began late:
+    it is found once each sub-VL of its link has begun a message."""
+    for turn in range(TURNS):
+        rng = random.Random(f"known again {seed} {turn}")
+        try:
+            it = breaking.strayed(breaking.Ground(rng, recorded(rng), True))
+        except breaking.Unfit:
+            continue
+        captures = files_of(it.packets, rng)
+        wanted = [(kind, rule, number_of(it.packets, packet, len(captures)), packet.network) for kind, rule, packet in it.wanted]
+        return faults_of(f"known again {seed}", text_of(it.plan, rng), captures, Options(late=True, arinc=True), wanted)
+    return [f"known again {seed}: none of {TURNS} recordings has a place for the piece"]
+
+
 def late(seed: int) -> list[str]:
     """What is wrong with the verdict on the end of a recording: nothing is found if the command knows that it began late."""
     rng = random.Random(f"late {seed}")
@@ -337,7 +352,7 @@ def main() -> int:
             # (so each rule of the layout is broken)
             cases = [(kind, seed) for seed in range(counts.planted * (1 if kind else 8))]
             tries.attempt(f"{len(cases)} times {word} alone", lambda cases=cases: (tried(planted, cases), ""))
-        for task in (late, jittered, checked, told, of_another_maker, staggered, lost, unmerged, mixed):
+        for task in (known_again, late, jittered, checked, told, of_another_maker, staggered, lost, unmerged, mixed):
             tries.attempt(f"{task.__name__}, {counts.mixed} times", lambda task=task: (tried(task, range(counts.mixed)), ""))
         tries.attempt("each prefix of a capture", lambda: (tried(prefix, prefixes(4 if counts is FEW else 60)), ""))
         tries.attempt(f"{counts.damaged} damaged captures", lambda: (tried(damaged, range(counts.damaged)), ""))

@@ -130,10 +130,11 @@ at_start plan options = record {
   links = replicate (length plan.links) (new_link options.late options.arinc);
 }
 
--- the gap of a link and the jitter in nanoseconds, and the room of its frames
+-- the number of a link's sub-VLs, its gap and the jitter in nanoseconds, and the room of its frames
 abbrev pub measure_of : Options → LinkPlan → Measure
 measure_of options link = record {
   room = room_of link.lmax;
+  sub_vls = link.sub_vls;
   gap = 1000 * bag_micros link.bag;
   jitter = 1000 * options.jitter;
   late = options.late;

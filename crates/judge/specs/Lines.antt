@@ -1,5 +1,5 @@
 -- A link on a network: its sequence numbers, its gaps, the turns of its sub-VLs, and the messages of these.
-use Rattle.std.specs.Prelude.{ℕ, ◌+◌, ◌-◌, ◌%◌, ◌^◌, nat_eq, nat_lt, nat_le, ◌&&◌, ◌||◌, Bool, false, if◌then◌else◌, min, List, [], ◌∷◌, slice_set, get_or, position, unwrap_or, option_map, not, Option, Some, None}
+use Rattle.std.specs.Prelude.{ℕ, ◌+◌, ◌-◌, ◌%◌, ◌^◌, nat_eq, nat_lt, nat_le, ◌&&◌, ◌||◌, Bool, false, true, if◌then◌else◌, min, List, [], ◌∷◌, slice_set, get_or, position, take, unwrap_or, option_map, not, Option, Some, None}
 use Rattle.std.specs.Option.{is_some, option_map_or}
 use Rattle.judge.specs.Deviations.{deviation, first_of}
 use Rattle.judge.specs.Fields.{ends_message}
@@ -26,20 +26,26 @@ new_line late arinc = record {
   subs = new_sub late arinc 0 ∷ new_sub late arinc 1 ∷ new_sub late arinc 2 ∷ new_sub late arinc 3 ∷ [];
 }
 
-abbrev pub unknown_place : List Sub → Option ℕ
-unknown_place subs = position (λ (s : Sub). not (is_some (next_of s.joining))) subs
+-- a sub-VL without any knowledge of its message
+abbrev pub unknown_sub : Sub
+unknown_sub = new_sub true false 0
 
--- The state of a frame's sub-VL if it is none of the four: the frame begins a message, or may be any piece if some
--- sub-VL's message is unknown.
-abbrev pub other_sub : List Sub → Sub
-other_sub subs = record {
-  joining = if is_some (unknown_place subs) then Any else After None;
-  came = 0;
-  due = false;
-}
-
+-- the state of one of the four sub-VLs
 abbrev pub sub_at : List Sub → ℕ → Sub
-sub_at subs sub = get_or subs sub (other_sub subs)
+sub_at subs sub = get_or subs sub unknown_sub
+
+-- the first sub-VL, among a link's first `count`, without knowledge of its message
+abbrev pub unknown_place : ℕ → List Sub → Option ℕ
+unknown_place count subs = position (λ (s : Sub). not (is_some (next_of s.joining))) (take count subs)
+
+-- The knowledge of a frame's message if its sub-VL is none of the four: the frame begins a message, or may be any piece
+-- if the message of one of the link's sub-VLs isn't known.
+abbrev pub other_joining : ℕ → List Sub → Joining
+other_joining count subs = if is_some (unknown_place count subs) then Any else After None
+
+-- the knowledge of a frame's message
+abbrev pub joining_at : ℕ → ℕ → List Sub → Joining
+joining_at count sub subs = if nat_lt sub 4 then (sub_at subs sub).joining else other_joining count subs
 
 -- ---- numbers and gaps
 
@@ -158,12 +164,12 @@ message_after arinc (Some deviation) fields port joining = None
 message_after arinc None fields port joining = end_deviation arinc fields.piece (head_now port fields joining)
 
 -- the message of a frame's sub-VL, and how its piece isn't the next one
-abbrev pub joining_on : Arrived → Line → Joining
-joining_on arrived line = (sub_at line.subs arrived.sub).joining
+abbrev pub joining_on : Measure → Arrived → Line → Joining
+joining_on measure arrived line = joining_at measure.sub_vls arrived.sub line.subs
 
 abbrev pub fragment_on : Measure → Arrived → Line → Option Deviation
 fragment_on measure arrived line =
-    fragment_deviation measure.arinc measure.room arrived.fields (joining_on arrived line)
+    fragment_deviation measure.arinc measure.room arrived.fields (joining_on measure arrived line)
 
 -- the line with the number and the time of a frame
 abbrev pub line_counted : Measure → Arrived → Line → Line
@@ -189,7 +195,7 @@ line_joined measure arrived joining line = record (line_counted measure arrived 
 -- the line with a frame, from the settled line
 unfoldable pub line_with : Measure → Option PortPlan → Arrived → Line → Line
 line_with measure port arrived line = line_joined measure arrived
-    (joining_after measure.arinc (fragment_on measure arrived line) arrived.fields port (joining_on arrived line)) line
+    (joining_after measure.arinc (fragment_on measure arrived line) arrived.fields port (joining_on measure arrived line)) line
 
 -- the line on which a frame is judged: after its number, and after its turn
 abbrev pub numbered : Measure → Arrived → Line → Line
@@ -217,7 +223,7 @@ line_after measure port arrived line =
 
 abbrev pub message_on : Measure → Option PortPlan → Arrived → Line → Option Deviation
 message_on measure port arrived line =
-    message_after measure.arinc (fragment_on measure arrived line) arrived.fields port (joining_on arrived line)
+    message_after measure.arinc (fragment_on measure arrived line) arrived.fields port (joining_on measure arrived line)
 
 -- a deviation of a piece of a message
 abbrev pub of_piece : Measure → Arrived → Option Deviation → Option Deviation

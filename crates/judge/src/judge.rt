@@ -229,6 +229,7 @@ impl Judge {
             plan,
             measure: Measure {
                 room: plan.lmax.room(),
+                sub_vls: plan.sub_vls,
                 gap: 1_000 * plan.bag.micros(),
                 jitter: 1_000 * self.options.jitter as u128,
                 late: self.options.late,

@@ -1,7 +1,7 @@
 //! A link on a network: its numbers, its gaps and its sub-VLs.
 ghost use Rattle.std.specs.Prelude.{◌≡◌, ◌+◌, ◌≤◌, ◌<◌, ◌%◌, if◌then◌else◌, slice_set, true, false};
 ghost use Rattle.judge.specs.Fields.{AreSmall};
-ghost use Rattle.judge.specs.Lines.{new_sub, new_line, next_number, number_unless, number_deviation, gap_since, early_since, early_deviation, delay_after, unsettled_sub, unsettled, is_beside, line_counted, excused_sub, excused, turn_deviation, due_before, unknown_place, going_on, sub_at, other_sub, port_deviation, sub_in, sub_shown, sub_of, figures_with, joining_after, message_after, line_joined, line_with, line_after, verdict, after_number, after_turn};
+ghost use Rattle.judge.specs.Lines.{new_sub, new_line, next_number, number_unless, number_deviation, gap_since, early_since, early_deviation, delay_after, unsettled_sub, unsettled, is_beside, line_counted, excused_sub, excused, turn_deviation, due_before, unknown_place, going_on, sub_at, joining_at, port_deviation, sub_in, sub_shown, sub_of, figures_with, joining_after, message_after, line_joined, line_with, line_after, verdict, after_number, after_turn};
 
 use crate::fields::Fields;
 use crate::figures::Figures;
@@ -52,6 +52,8 @@ pub(crate) struct Arrived {
 pub(crate) struct Measure {
     /// The most bytes of a datagram in a frame.
     pub(crate) room: u16,
+    /// The number of the link's sub-VLs.
+    pub(crate) sub_vls: u8,
     /// The least time in nanoseconds between the releases of two frames.
     pub(crate) gap: u64,
     /// The greatest time in nanoseconds from a frame's release to its time.
@@ -127,11 +129,13 @@ pub(crate) fn sub_in(fields: &Fields) -> u8
     (fields.piece.ident % 4) as u8
 }
 
-/// Returns the first sub-VL without knowledge of its message.
-fn unknown_place(subs: &[Sub]) -> Option<usize>
-    ensures { result ≡ unknown_place subs.now }
+/// Returns the first one of a link's `count` sub-VLs without knowledge of its message.
+fn unknown_place(count: u8, subs: &[Sub]) -> Option<usize>
+    ensures { result ≡ unknown_place count subs.now }
 {
-    subs.iter().position(|s| matches!(s.joining, Joining::Any))
+    subs.iter()
+        .take(count as usize)
+        .position(|s| matches!(s.joining, Joining::Any))
 }
 
 /// Returns the first sub-VL with a message that a piece continues.
@@ -243,28 +247,33 @@ impl Line {
         }
     }
 
+    /// Returns the number of the link's frames up to the last one of a sub-VL, 0 if the sub-VL isn't known.
+    fn came(&self, sub: u8) -> u64
+        ensures { result ≡ (sub_at self.now.subs sub).came }
+    {
+        match self.subs.get(sub as usize) {
+            Some(s) => s.came,
+            None => 0,
+        }
+    }
+
     /// Returns a finding if a frame is the second one of its sub-VL before a due piece of another sub-VL.
     fn turn_deviation(&self, sub: u8) -> Option<Deviation>
         ensures { result ≡ turn_deviation sub self.now }
     {
-        let due = passed_by(&self.subs, self.sub(sub).came)?;
+        let due = passed_by(&self.subs, self.came(sub))?;
         Some(Deviation::new(FindingKind::Turn, sub as u64, due as u64))
     }
 
-    /// Returns the state of a frame's sub-VL, or a state for a frame whose sub-VL isn't known.
-    fn sub(&self, sub: u8) -> Sub
-        ensures { result ≡ sub_at self.now.subs sub }
+    /// Returns the knowledge of the message of a frame, whose sub-VL may not be known. `count` is the number of the
+    /// link's sub-VLs.
+    fn joining(&self, count: u8, sub: u8) -> Joining
+        ensures { result ≡ joining_at count sub self.now.subs }
     {
-        if let Some(s) = self.subs.get(sub as usize) {
-            return *s;
-        }
-        Sub {
-            joining: match unknown_place(&self.subs) {
-                Some(_) => Joining::Any,
-                None => Joining::After(None),
-            },
-            came: 0,
-            due: false,
+        match self.subs.get(sub as usize) {
+            Some(s) => s.joining,
+            None if unknown_place(count, &self.subs).is_some() => Joining::Any,
+            None => Joining::After(None),
         }
     }
 
@@ -348,7 +357,7 @@ impl Line {
         }
         let turn = numbered.turn_deviation(arrived.sub);
         let settled = numbered.after(turn, false);
-        let joining = settled.sub(arrived.sub).joining;
+        let joining = settled.joining(measure.sub_vls, arrived.sub);
         let fragment = joining.fragment_deviation(measure.arinc, measure.room, fields);
         let (after, message) = ended(measure.arinc, fragment, fields, port, &joining);
         let port = port_deviation(fields, port);

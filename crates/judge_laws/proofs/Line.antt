@@ -1,6 +1,6 @@
 -- A line of a judge: what it knows of a link on a network while the frames `rest` of a legal stream are to come, and that
 -- nothing is wrong with the next one: its number, its gap, its turn and its piece.
-use Rattle.judge_laws.proofs.Names.{Arrived, Bool, Entry, IsApart, IsFollowedInTurn, IsNumbered, IsPlan, IsSpaced, Joining, Last, Line, List, Measure, Net, None, Option, Options, Plan, PortPlan, Some, Stamp, Sub, Tag, TakesTurns, Verdict, arith, arrived, bag_micros, before_next, cases_Bool, cases_eq, delay_after, due_before, early_deviation, early_since, entry_number, false, fields_of, figures_with, get_or, get_or-set_other, get_or-set_same, get_or_default, head_now, inl, inr, joined, length, length-set, line_after, line_with, link_plan_at, measure_of, min, more_in, names, nat_lt, nat_tests, new_sub, next_number, number_after, number_deviation, number_unless, other_sub, passed_by, position-Some, refl, sequence_number, settled, slice_set, stamp_of, sub_at, sub_in, sub_stream, sym, told, true, turn_deviation, verdict, ℕ, [], ◌&&◌, ◌*◌, ◌++◌, ◌+◌, ◌-◌, ◌<◌, ◌^◌, ◌∷◌, ◌≡◌, ◌≢◌, ◌≤◌}
+use Rattle.judge_laws.proofs.Names.{Arrived, Bool, Entry, IsApart, IsFollowedInTurn, IsNumbered, IsPlan, IsSpaced, Joining, Last, Line, List, Measure, Net, None, Option, Options, Plan, PortPlan, Some, Stamp, Sub, Tag, TakesTurns, Verdict, arith, arrived, bag_micros, before_next, cases_Bool, cases_eq, delay_after, due_before, early_deviation, early_since, entry_number, false, fields_of, figures_with, get_or, get_or-set_other, get_or-set_same, head_now, inl, inr, joined, length, length-set, line_after, line_with, link_plan_at, lt-ltb, measure_of, min, more_in, names, nat_lt, nat_tests, new_sub, next_number, number_after, number_deviation, number_unless, passed_by, position-Some, refl, sequence_number, settled, slice_set, stamp_of, sub_at, sub_in, sub_stream, sym, told, true, turn_deviation, verdict, ℕ, [], ◌&&◌, ◌*◌, ◌++◌, ◌+◌, ◌-◌, ◌<◌, ◌^◌, ◌∷◌, ◌≡◌, ◌≢◌, ◌≤◌}
 use Rattle.judge_laws.proofs.Message.{IsGood, port_at}
 use Rattle.judge_laws.proofs.Pieces.{IsAwaiting, IsClean, one_frame}
 use Rattle.judge_laws.proofs.Reading.{more_of, with_other, with_own}
@@ -51,7 +51,7 @@ abbrev pub own_sub : List Sub → ℕ → Sub
 own_sub subs sub = get_or subs sub (new_sub true false 0)
 
 pub own_is : (subs : List Sub) (s : ℕ) → s < length subs → sub_at subs s ≡ own_sub subs s
-own_is subs s inside = get_or_default subs s (other_sub subs) (new_sub true false 0) inside
+own_is subs s inside = refl
 
 -- What the sub-VLs of a line say of the frames that are still to come. `frames` came so far. While a piece of a sub-VL
 -- is due, each other one has at most one frame before it, and none more if one came already.
@@ -91,10 +91,10 @@ pub sub_other : (subs : List Sub) (s p : ℕ) (new : Sub) → p ≢ s → own_su
 sub_other subs s p new other = get_or-set_other subs s p new (new_sub true false 0) other
 
 pub sub_new_at : (subs : List Sub) (s : ℕ) (new : Sub) → s < length subs → sub_at (slice_set subs s new) s ≡ new
-sub_new_at subs s new inside = get_or-set_same subs s new (other_sub (slice_set subs s new)) inside
+sub_new_at subs s new inside = get_or-set_same subs s new (new_sub true false 0) inside
 
 pub sub_other_at : (subs : List Sub) (s p : ℕ) (new : Sub) → p ≢ s → p < length subs → sub_at (slice_set subs s new) p ≡ sub_at subs p
-sub_other_at subs s p new other inside = grind (arith, nat_tests, get_or-set_other, get_or_default)
+sub_other_at subs s p new other inside = grind (arith, nat_tests, get_or-set_other)
 
 pub due_after : (subs : List Sub) (frames : ℕ) (e : Entry) (es : List Entry) (s : ℕ) (new : Sub) → AreDue subs frames (e ∷ es)
     → s < 4 → sub_in e.frame ≡ s → new.came ≡ min (frames + 1) (2 ^ 64 - 1) → new.due ≡ more_in e.frame
@@ -156,6 +156,7 @@ line_of measure port come line s = record {
 -- what is to hold of a frame of a sub-VL
 pub record IsRight (measure : Measure) (port : Option PortPlan) (come : Arrived) (line : Line) (s : ℕ) : Type 0 where
   pub profile : measure.arinc ≡ false
+  pub known : s < 4
   pub number : number_deviation measure.late come.fields.number line ≡ None
   pub early : early_deviation measure.gap come.at line ≡ None
   pub good : IsGood measure.room port come.fields (sub_at line.subs s).joining
@@ -169,12 +170,12 @@ pub right_after : (measure : Measure) (port : Option PortPlan) (come : Arrived) 
     → IsRight measure port come line come.sub
     → line_after measure port come line ≡ line_of measure port come line come.sub
 unfolding line_after line_with
-right_after measure port come line right = rw (settles measure port come line right, right.profile, right.good.fits) refl
+right_after measure port come line right = rw (settles measure port come line right, right.profile, lt-ltb _ _ right.known, right.good.fits) refl
 
 right_verdict : (measure : Measure) (port : Option PortPlan) (come : Arrived) (line : Line)
     → IsRight measure port come line come.sub → verdict measure port come line ≡ faultless
 unfolding verdict
-right_verdict measure port come line right = grind (arith, nat_tests, settles, right.profile, right.good.of_port, right.good.fits, right.good.ends)
+right_verdict measure port come line right = grind (arith, nat_tests, settles, right.profile, right.known, right.good.of_port, right.good.fits, right.good.ends)
 
 -- a frame on its line, and the line after it
 abbrev pub come_of : Plan → ℕ → Options → Tag → List ℕ → Line → Arrived
@@ -240,6 +241,7 @@ line_taken plan k net origin options line tag e es valid inside long index is de
     right : IsRight measure port come line s
     right = record {
       profile = refl;
+      known = four;
       number = number_fits (IsHeld origin) is.place (fields_of e.frame).number is.before options.late line.last is.last
           is.numbered.0;
       early = none_early origin (bag_micros (link_plan_at plan.links k).bag) is.place e.at tag.at options.late is.before line.last

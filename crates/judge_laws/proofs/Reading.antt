@@ -198,6 +198,9 @@ pub sub_of_frame : (frame : List ℕ) → judge_sub (fields_of frame) ≡ sub_in
 unfolding fields_of
 sub_of_frame frame = refl
 
+pub sub_few : (frame : List ℕ) → judge_sub (fields_of frame) < 4
+sub_few frame = omega arith
+
 -- the elements from one on, as many as there are
 abbrev pub bytes_at : List ℕ → ℕ → ℕ → List ℕ
 bytes_at f i zero = []

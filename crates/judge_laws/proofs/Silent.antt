@@ -5,7 +5,7 @@ use Rattle.judge_laws.proofs.Line.{AreDue, IsFaultless, IsLast, IsRight, come_of
 use Rattle.judge_laws.proofs.Message.{IsDue, IsNext, joining_after, last_joined, more_joined, port_at, room_at}
 use Rattle.judge_laws.proofs.Pieces.{comes_first, cut_at, due_from}
 use Rattle.judge_laws.proofs.Quiet.{Brings, IsAdmitted, IsBetween, IsQuiet, IsWhole, IsWithin, body_in, brings_first, brings_later, ends_says, fits_says, length_says, piece_in, size, tells_whole}
-use Rattle.judge_laws.proofs.Reading.{more_of, number_of, rebuilt, sub_of_frame, with_other, with_own}
+use Rattle.judge_laws.proofs.Reading.{more_of, number_of, rebuilt, sub_few, sub_of_frame, with_other, with_own}
 
 -- Nothing is wrong with a frame that is recorded at this time. The packet has its release time, on a clock that is the
 -- jitter ahead.
@@ -23,13 +23,14 @@ AreClear plan k options net line (r ∷ rs) = (clear : IsClear plan k options ne
 
 -- a line on which nothing is wrong with a frame
 pub wrong_right : (measure : Measure) (port : Option PortPlan) (come : Arrived) (line : Line) → measure.arinc ≡ false
-    → verdict measure port come line ≡ faultless → IsRight measure port come line come.sub
+    → come.sub < 4 → verdict measure port come line ≡ faultless → IsRight measure port come line come.sub
 unfolding verdict
-wrong_right measure port come line own wrong =
+wrong_right measure port come line own known wrong =
     let number : number_deviation measure.late come.fields.number line ≡ None = ap (λ (v : Verdict). v.number) wrong in
     let turn : turn_deviation come.sub line ≡ None = rw (number, own) at (ap (λ (v : Verdict). v.turn) wrong) in
-    let fits = rw (number, turn, own) at (ap (λ (v : Verdict). v.fragment) wrong) in
-    let ends = rw (number, turn, own, fits) at (ap (λ (v : Verdict). v.message) wrong) in
+    let is_known = lt-ltb _ _ known in
+    let fits = rw (number, turn, own, is_known) at (ap (λ (v : Verdict). v.fragment) wrong) in
+    let ends = rw (number, turn, own, is_known, fits) at (ap (λ (v : Verdict). v.message) wrong) in
     let early = ap (λ (v : Verdict). v.early) wrong in
     let of_port = rw own at (ap (λ (v : Verdict). v.port) wrong) in
     assumption
@@ -104,7 +105,7 @@ line_with_it plan k options net line r at =
 pub after_clear : (plan : Plan) (k : ℕ) (options : Options) (net : Net) (line : Line) (r : Recorded)
     → (clear : IsClear plan k options net line r)
     → line_then plan k options (tag_of net 0 clear.at) r.bytes line ≡ line_with_it plan k options net line r clear.at
-after_clear plan k options net line r clear = grind (arith, nat_tests, right_after, wrong_right, sub_of_frame)
+after_clear plan k options net line r clear = grind (arith, nat_tests, right_after, wrong_right, sub_of_frame, sub_few)
 
 turn_none : (sub : ℕ) (due : Option ℕ) → turn_if sub due ≡ None → due ≡ None
 turn_none sub due none = grind (arith, nat_tests)
@@ -123,7 +124,7 @@ module _ (plan : Plan) (k : ℕ) (options : Options) (net : Net) (line : Line) (
   new = sub_of (port_at plan k r.bytes) come line s
 
   right : IsRight (measure_at plan k options) (port_at plan k r.bytes) come line come.sub
-  right = wrong_right _ _ _ line refl clear.wrong
+  right = wrong_right _ _ _ line refl (sub_few r.bytes) clear.wrong
 
   counts : (figures_with come line).frames ≡ i + 1
   counts = rw is.frames (omega arith)
@@ -366,7 +367,7 @@ quiet : (plan : Plan) (k s : ℕ) (options : Options) (net : Net) (line : Line) 
     → sub_in r.bytes ≡ s → IsQuiet plan k s net (sub_at line.subs s).joining r.bytes
 quiet plan k s options net line r clear its =
     let right = subst (λ q. IsRight (measure_at plan k options) (port_at plan k r.bytes) (come_at plan k options net line r clear.at) line q)
-    (sub_of_frame r.bytes ∙ its) (wrong_right _ _ _ line refl clear.wrong) in
+    (sub_of_frame r.bytes ∙ its) (wrong_right _ _ _ line refl (sub_few r.bytes) clear.wrong) in
     let of_sub = sub_of_frame r.bytes ∙ its in
     assumption (right, of_sub)
 
