@@ -5,7 +5,7 @@ from typing import NamedTuple
 
 from ._library import Captured, FindingRow
 
-KINDS = "Frame Source Link Network Size Number Early Port Fragment Message Turn Twin Missing".split()
+KINDS = "Frame Source Link Network Size Number Early Port Fragment Message Turn Twin Missing Restart".split()
 RULES = {
     "Frame": "Time Snapped CheckSequence Recorded Length DestinationMac SourceMac Interface EtherType Version TotalLength "
     "Fragment Protocol HeaderSum SourceAddress DestinationAddress Padding".split(),

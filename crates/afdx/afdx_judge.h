@@ -28,7 +28,7 @@ typedef struct {
     uint64_t wanted; /**< the number that was wanted */
     uint32_t vl;     /**< the identifier of its virtual link, or AFDX_NO_VL */
     uint8_t network; /**< AFDX_A or AFDX_B */
-    uint8_t kind;    /**< AFDX_FINDING_FRAME to AFDX_FINDING_MISSING */
+    uint8_t kind;    /**< AFDX_FINDING_FRAME to AFDX_FINDING_RESTART */
     uint8_t rule;    /**< which rule of AFDX_FINDING_FRAME, AFDX_FINDING_FRAGMENT or AFDX_FINDING_MESSAGE; 0 of others */
 } afdx_finding;
 
@@ -49,7 +49,8 @@ enum {
     AFDX_FINDING_MESSAGE = 10,
     AFDX_FINDING_TURN = 11,
     AFDX_FINDING_TWIN = 12,
-    AFDX_FINDING_MISSING = 13
+    AFDX_FINDING_MISSING = 13,
+    AFDX_FINDING_RESTART = 14
 };
 
 /** How a capture ends. From AFDX_CAPTURE_FORMAT on it is malformed. */
@@ -136,7 +137,7 @@ uint8_t afdx_capture_lost(const uint8_t *capture, size_t length, uint64_t *lost)
    @return the words */
 static inline const char *afdx_finding_name(const afdx_finding *finding) {
     static const char *const kinds[] = {"unknown finding", "Frame", "Source", "Link", "Network", "Size", "Number",
-        "Early", "Port", "Fragment", "Message", "Turn", "Twin", "Missing"};
+        "Early", "Port", "Fragment", "Message", "Turn", "Twin", "Missing", "Restart"};
     static const char *const of_frame[] = {"Frame Time", "Frame Snapped", "Frame CheckSequence", "Frame Recorded",
         "Frame Length", "Frame DestinationMac", "Frame SourceMac", "Frame Interface", "Frame EtherType", "Frame Version",
         "Frame TotalLength", "Frame Fragment", "Frame Protocol", "Frame HeaderSum", "Frame SourceAddress",

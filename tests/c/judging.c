@@ -75,6 +75,13 @@ static void check_findings(void) {
     memset(found, '?', sizeof found);
     CHECK(judges(&a, &b, found, 1, &judged) == AFDX_SMALL_BUFFER && judged.findings == 2 && is(found, 15, AFDX_B, "Number", 15, 14));
     CHECK(((uint8_t *)&found[1])[0] == '?' && judges(&a, &b, NULL, 0, &judged) == AFDX_SMALL_BUFFER && judged.findings == 2);
+    /* the end system restarts: network A's sixth frame is the first one again */
+    uint8_t *sixth = a.bytes + HEADER + 5 * RECORD + 16, before[60];
+    memcpy(before, sixth, sizeof before);
+    memcpy(sixth, a.bytes + HEADER + 16, sizeof before);
+    CHECK(judges(&a, &b, found, 3, &judged) == AFDX_SMALL_BUFFER && is(&found[0], 6, AFDX_A, "Restart", 0, 5));
+    CHECK(found[0].kind == AFDX_FINDING_RESTART && found[0].rule == 0);
+    memcpy(sixth, before, sizeof before);
     /* a capture of both networks has them by its interfaces: all packets of pcap are network A's, and none needs a twin */
     CHECK(afdx_judge((const uint8_t *)PLAN, sizeof PLAN - 1, &PLAIN, a.bytes, a.length, found, 3, &judged) == AFDX_OK);
     CHECK(judged.findings == 0 && judged.b.packets == 30);

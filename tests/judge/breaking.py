@@ -396,6 +396,30 @@ def lost(ground: Ground) -> Planted:
     return Planted(ground.plan, left_over, [("Missing", "", kept)])
 
 
+def restarted(ground: Ground) -> Planted:
+    """A transmitter that starts again after a while: the rest of its messages is gone, and its numbers begin again, in this
+    project's frames also its identifications."""
+    def left(vl: int, k: int) -> list[int]:
+        gone = {frame for j in range(k) if not ground.frame(vl, j).start for frame in ground.message_of(vl, j)}
+        return [j for j in range(k, len(ground.events[vl])) if j not in gone]
+
+    def fits(vl: int, k: int) -> bool:
+        return k > 0 and ground.first(vl, k - 1)[-1] != 255 and bool(left(vl, k))
+
+    vl, k = ground.choose(fits)
+    own, counts = left(vl, k), dict.fromkeys(range(4), -1)
+    gone = {it for j in range(k, len(ground.events[vl])) if j not in own for it in ground.events[vl][j]}
+    for place, j in enumerate(own):
+        it, number = ground.frame(vl, j), (place - 1) % 255 + 1 if place else 0
+        counts[it.sub] += it.start == 0
+        ident = ground.first(vl, j)[18:20] if ground.arinc else (4 * counts[it.sub] + it.sub).to_bytes(2, "big")
+        for packet in ground.rewrite(vl, j, lambda data, ident=ident, number=number: summed(put(data, 18, ident))[:-1] + bytes([number])):
+            ground.packets[packet] = ground.packets[packet]._replace(at=ground.packets[packet].at + 1000**3)
+    wanted = [("Restart", "", ground.packets[it]) for it in ground.events[vl][own[0]]]
+    packets = by_time([it for place, it in enumerate(ground.packets) if place not in gone])
+    return Planted(ground.plan, packets, sorted(wanted, key=lambda it: packets.index(it[2])))
+
+
 def strayed(ground: Ground) -> Planted:
     """A piece of another maker's that goes on with no message, after each sub-VL of its link has begun one."""
     def fits(vl: int, k: int) -> bool:
@@ -409,4 +433,4 @@ def strayed(ground: Ground) -> Planted:
 
 # A fault of each kind, in the order of the kinds.
 PLANTS = [broken, of_another, of_no_link, on_another, too_long, miscounted, hurried, of_no_port, misfit, misended]
-PLANTS += [out_of_turn, unlike, lost]
+PLANTS += [out_of_turn, unlike, lost, restarted]

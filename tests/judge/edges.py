@@ -129,6 +129,34 @@ def twins_at(at: int, place: int, more: int = 0) -> list[Packet]:
     return [Packet(net, at, len(it), it) for net, it in (("A", data), ("B", breaking.put(data, 11, b"\x40")))]
 
 
+def runs_of(*runs: list[int]) -> list[Packet]:
+    """The packets of both networks, of a transmitter that starts once for each list of numbers, with a frame each 100 ms."""
+    rows = [(place, number) for run in runs for place, number in enumerate(run)]
+    packets = [it for k, (place, _) in enumerate(rows) for it in twins_at(100_000 * MICRO * k, place)]
+    numbers = [number for _, number in rows for _ in "AB"]
+    return [it._replace(data=it.data[:-1] + bytes([number])) for it, number in zip(packets, numbers, strict=True)]
+
+
+def restarts() -> list[str]:
+    """What is wrong with the verdicts on numbers that are 0: the first one; after 255, which is a wrong count; after 0 and after
+    others, on both networks or on one, also in recordings that began late."""
+    faults, first = [], [*range(256)]
+    cases = {(): [[0, 1, 2]], ("Restart", 3): [[0, 1, 2], [0, 1]], ("Restart", 1): [[0], [0, 1]]}
+    cases |= {("Number", 256): [[*first, 0, 1]], ("Restart", 257): [[*first, 1], [0, 1]]}
+    for options in (Options(), Options(late=True), Options(arinc=True), Options(late=True, arinc=True)):
+        for told, runs in cases.items():
+            wanted = [(told[0], "", 2 * told[1] + k, net) for k, net in ((1, "A"), (2, "B"))] if told else []
+            faults += faults_of(f"restart {told}", trying.DEMO, [written(runs_of(*runs), PLAIN, random.Random(0))], options, wanted)
+        again, on = runs_of([0, 1, 2], [0, 1]), runs_of([0, 1, 2, 3, 4])
+        for net in "AB":
+            packets = [one if one.network == net else other for one, other in zip(again, on, strict=True)]
+            capture = written(packets, PLAIN, random.Random(0))
+            found = [(it.packet, it.network) for it in verdict.judged(trying.DEMO, [capture], options)[2] if it.kind == "Restart"]
+            faults += faults_of(f"restart on {net}", trying.DEMO, [capture], options)
+            faults += [] if found == [(7 + (net == "B"), net)] else [f"restart on {net}: {found}"]
+    return faults
+
+
 def fallen_silent() -> list[str]:
     """What is wrong with the verdicts on a link of which network B has only the first 100 frames. Of 255 more on network A any
     twin may still come, and of 500 more the first 245 are Missing: their numbers come again."""

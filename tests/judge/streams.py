@@ -97,7 +97,7 @@ class Stream:
         self.gaps: list[int] = []
         # The least time at which the last frame may have been released, which may be before time 0.
         self.release: int | None = None
-        self.joining = {sub: UNKNOWN if options.late else Joining(ANY if options.arinc else sub, 0) for sub in range(4)}
+        self.joining = dict.fromkeys(range(4), UNKNOWN) if options.late else self.begun()
         # The sub-VLs whose last frame has a piece after it, and those that came after the last frame of each.
         self.due: set[int] = set()
         self.later: dict[int, set[int]] = {sub: set() for sub in range(4)}
@@ -124,12 +124,20 @@ class Stream:
         return strange + self.joined(piece, port, sub) + turn
 
     def counted(self, piece: Piece) -> list[tuple[str, str, str]]:
-        """The sequence number. After another one nothing is known of the messages."""
+        """The sequence number. After another one nothing is known of the messages. A transmitter that starts again counts from
+        0, and begins its messages; one whose count comes from 255 to 0 counts wrong."""
         wanted = 0 if self.number is None else self.number % 255 + 1
         if piece.number == wanted or (self.number is None and self.options.late):
             return []
         self.forget()
-        return [("Number", "", differ(piece.number, wanted))]
+        if piece.number or self.number in (None, 255):
+            return [("Number", "", differ(piece.number, wanted))]
+        self.joining = self.begun()
+        return [("Restart", "", differ(0, wanted))]
+
+    def begun(self) -> dict[int, Joining]:
+        """What is known of the messages of a transmitter that starts."""
+        return {sub: Joining(ANY if self.options.arinc else sub, 0) for sub in range(4)}
 
     def forget(self) -> None:
         """Nothing is known of the messages."""

@@ -357,7 +357,7 @@ def main() -> int:
         tries.attempt("each prefix of a capture", lambda: (tried(prefix, prefixes(4 if counts is FEW else 60)), ""))
         tries.attempt(f"{counts.damaged} damaged captures", lambda: (tried(damaged, range(counts.damaged)), ""))
         tries.attempt("40 pages", lambda: (tried(edges.page, range(40)), ""))
-        for task in (edges.unwritten, edges.no_capture, edges.fallen_silent, edges.long, edges.great, edges.interrupted):
+        for task in (edges.unwritten, edges.no_capture, edges.restarts, edges.fallen_silent, edges.long, edges.great, edges.interrupted):
             tries.attempt(task.__name__, lambda task=task: (task(), ""))
         for task in (taps.several, taps.apart, taps.by_byte, taps.silent):
             tries.attempt(f"{task.__name__}, {counts.mixed} times", lambda task=task: (tried(task, range(counts.mixed)), ""))

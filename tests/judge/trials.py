@@ -85,7 +85,7 @@ def changed(packets: list[Packet], rng: random.Random) -> None:
     elif turn == 5:
         packets[at] = it._replace(data=it.data[: rng.randrange(len(it.data) + 1)])
     elif turn == 6 and it.data:
-        packets[at] = breaking.moved(it, it.data[:-1] + bytes([(it.data[-1] + rng.choice((1, 254))) % 256]))
+        packets[at] = breaking.moved(it, it.data[:-1] + bytes([(it.data[-1] + rng.choice((1, 254, 256 - it.data[-1]))) % 256]))
     elif it.data:
         place = rng.choice((rng.randrange(len(it.data)), rng.randrange(min(len(it.data), 48))))
         data = breaking.put(it.data, place, bytes([it.data[place] ^ 1 << rng.randrange(8)]))

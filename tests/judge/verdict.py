@@ -7,7 +7,7 @@ from typing import NamedTuple
 from captures import SECOND, Packet, Reader, merged
 from streams import ICMP, Options, Piece, Stream, Table, differ, half, words
 
-KINDS = "Frame Source Link Network Size Number Early Port Fragment Message Turn Twin Missing".split()
+KINDS = "Frame Source Link Network Size Number Early Port Fragment Message Turn Twin Missing Restart".split()
 BYTE_11 = {"A": 0x20, "B": 0x40}
 PRINTED = 100
 FOREIGN_ROWS = 64

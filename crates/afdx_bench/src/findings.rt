@@ -57,13 +57,13 @@ fn write_kind<W: fmt::Write>(f: &mut fmt::Formatter<W>, finding: &Finding) -> fm
 }
 
 // The names of the kinds by their numbers, from 1; the last one is that of a link without a frame.
-const KINDS: usize = 15;
+const KINDS: usize = 16;
 
-const SILENT: usize = 14;
+const SILENT: usize = 15;
 
 const NAMES: [&str; KINDS] = [
     "", "Frame", "Source", "Link", "Network", "Size", "Number", "Early", "Port", "Fragment",
-    "Message", "Turn", "Twin", "Missing", "Silent",
+    "Message", "Turn", "Twin", "Missing", "Restart", "Silent",
 ];
 
 // The most findings of a kind that are printed.

@@ -2,7 +2,7 @@
 use Rattle.std.specs.Prelude.{ℕ, List, [], ◌∷◌, ◌++◌, Option, Some, None}
 use Rattle.std.specs.Option.{option_or}
 use Rattle.judge.specs.Types.{Deviation, Finding, FindingKind, Tag, VlId}
-use Rattle.judge.specs.declared.finding.FindingKind.TheVariants.{Frame, Source, Link, Network, Size, Number, Early, Port, Fragment, Message, Turn, Twin, Missing}
+use Rattle.judge.specs.declared.finding.FindingKind.TheVariants.{Frame, Source, Link, Network, Size, Number, Early, Port, Fragment, Message, Turn, Twin, Missing, Restart}
 
 -- the number of a kind
 abbrev pub kind_number : FindingKind → ℕ
@@ -19,6 +19,7 @@ kind_number (Message ending) = 10
 kind_number Turn = 11
 kind_number Twin = 12
 kind_number Missing = 13
+kind_number Restart = 14
 
 abbrev pub deviation : FindingKind → ℕ → ℕ → Deviation
 deviation kind seen wanted = record { kind = kind; seen = seen; wanted = wanted }

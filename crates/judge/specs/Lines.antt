@@ -5,8 +5,8 @@ use Rattle.judge.specs.Deviations.{deviation, first_of}
 use Rattle.judge.specs.Fields.{ends_message}
 use Rattle.judge.specs.Figures.{figures_after, no_figures}
 use Rattle.judge.specs.Joining.{fragment_deviation, head_now, end_deviation, joined, goes_on, next_of}
-use Rattle.judge.specs.Types.{Arrived, Deviation, Fields, Figures, Joining, Last, Line, Measure, PortPlan, Sub, Verdict}
-use Rattle.judge.specs.declared.finding.FindingKind.TheVariants.{Number, Early, Port, Turn}
+use Rattle.judge.specs.Types.{Arrived, Deviation, Fields, Figures, FindingKind, Joining, Last, Line, Measure, PortPlan, Sub, Verdict}
+use Rattle.judge.specs.declared.finding.FindingKind.TheVariants.{Number, Early, Port, Turn, Restart}
 use Rattle.judge.specs.declared.joining.Joining.TheVariants.{Any, Between, After}
 
 -- ---- a line without frames
@@ -58,12 +58,19 @@ abbrev pub next_number : Bool → Option Last → Option ℕ
 next_number late (Some last) = Some (number_after last.number)
 next_number late None = if late then None else Some 0
 
-abbrev pub number_unless : ℕ → Option ℕ → Option Deviation
-number_unless seen None = None
-number_unless seen (Some wanted) = if nat_eq seen wanted then None else Some (deviation Number seen wanted)
+-- The kind of a number that isn't the next one. Only a transmitter that starts sends 0 (ARINC 664 Part 7, redundancy),
+-- so a link that was heard before has restarted. After 255 a 0 is taken for a count that goes on wrong.
+abbrev pub number_kind : ℕ → Option Last → FindingKind
+number_kind number None = Number
+number_kind number (Some last) = if nat_eq number 0 && not (nat_eq last.number 255) then Restart else Number
+
+abbrev pub number_unless : FindingKind → ℕ → Option ℕ → Option Deviation
+number_unless kind seen None = None
+number_unless kind seen (Some wanted) = if nat_eq seen wanted then None else Some (deviation kind seen wanted)
 
 abbrev pub number_deviation : Bool → ℕ → Line → Option Deviation
-number_deviation late number line = number_unless number (next_number late line.last)
+number_deviation late number line =
+    number_unless (number_kind number line.last) number (next_number late line.last)
 
 -- the time since the last frame
 abbrev pub gap_since : ℕ → Option Last → Option ℕ
@@ -98,6 +105,14 @@ unsettled_sub sub = record sub { joining = Any; due = false }
 abbrev pub unsettled : Line → Line
 unsettled line = record line { subs = each unsettled_sub line.subs }
 
+-- a line after a restart: each sub-VL begins its messages anew, as at the start
+abbrev pub restarted : Bool → Line → Line
+restarted arinc line = record line { subs = (new_line false arinc).subs }
+
+abbrev pub is_restart : FindingKind → Bool
+is_restart Restart = true
+is_restart _ = false
+
 abbrev pub excused_sub : Sub → Sub
 excused_sub sub = record sub { due = false }
 
@@ -118,9 +133,10 @@ abbrev pub turn_deviation : ℕ → Line → Option Deviation
 turn_deviation sub line = turn_if sub (passed_by sub line.subs)
 
 -- the line on which a frame is judged: after a finding on its number, and after a finding on its turn
-abbrev pub after_number : Option Deviation → Line → Line
-after_number None line = line
-after_number (Some deviation) line = unsettled line
+abbrev pub after_number : Bool → Option Deviation → Line → Line
+after_number arinc None line = line
+after_number arinc (Some deviation) line =
+    if is_restart deviation.kind then restarted arinc line else unsettled line
 
 abbrev pub after_turn : Option Deviation → Line → Line
 after_turn None line = line
@@ -147,7 +163,7 @@ sub_shown port fields subs = option_map_or (λ (p : PortPlan). p.sub) port (unwr
 
 abbrev pub sub_of : Measure → Option PortPlan → Fields → Line → ℕ
 sub_of measure port fields line =
-    let numbered = after_number (number_deviation measure.late fields.number line) line in
+    let numbered = after_number measure.arinc (number_deviation measure.late fields.number line) line in
     if measure.arinc then sub_shown port fields numbered.subs else sub_in fields
 
 abbrev pub figures_with : Arrived → Line → Figures
@@ -199,7 +215,8 @@ line_with measure port arrived line = line_joined measure arrived
 
 -- the line on which a frame is judged: after its number, and after its turn
 abbrev pub numbered : Measure → Arrived → Line → Line
-numbered measure arrived line = after_number (number_deviation measure.late arrived.fields.number line) line
+numbered measure arrived line =
+    after_number measure.arinc (number_deviation measure.late arrived.fields.number line) line
 
 abbrev pub settled : Measure → Arrived → Line → Line
 settled measure arrived line =

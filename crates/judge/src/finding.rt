@@ -47,7 +47,7 @@ pub enum FindingKind {
     Network,
     /// The frame has `seen` bytes with its check sequence, more than Lmax, which is `wanted`.
     Size,
-    /// The sequence number is `seen`, and the next is `wanted`.
+    /// The sequence number is `seen`, and the next is `wanted`. A `Restart` isn't told so.
     Number,
     /// The frame comes `seen` nanoseconds after the frame before it (0 if before it), and should come `wanted` or more.
     Early,
@@ -67,10 +67,13 @@ pub enum FindingKind {
     /// the frame, and one more than the skew after it, or none until the frame's own network came to its number again.
     /// `seen` is its sequence number, `wanted` is 0.
     Missing,
+    /// The sequence number is 0, `seen`, though the link was heard before, and its last number wasn't 255: the link's
+    /// transmitter restarted. The next number is `wanted`.
+    Restart,
 }
 
 impl FindingKind {
-    /// Returns the number of the kind, 1 to 13.
+    /// Returns the number of the kind, 1 to 14.
     pub fn number(self) -> u8
         ensures { result ≡ kind_number self }
     {
@@ -88,6 +91,7 @@ impl FindingKind {
             FindingKind::Turn => 11,
             FindingKind::Twin => 12,
             FindingKind::Missing => 13,
+            FindingKind::Restart => 14,
         }
     }
 }

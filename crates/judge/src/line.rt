@@ -1,7 +1,8 @@
 //! A link on a network: its numbers, its gaps and its sub-VLs.
 ghost use Rattle.std.specs.Prelude.{◌≡◌, ◌+◌, ◌≤◌, ◌<◌, ◌%◌, if◌then◌else◌, slice_set, true, false};
+ghost use Rattle.std.specs.Option.{is_some};
 ghost use Rattle.judge.specs.Fields.{AreSmall};
-ghost use Rattle.judge.specs.Lines.{new_sub, new_line, next_number, number_unless, number_deviation, gap_since, early_since, early_deviation, delay_after, unsettled_sub, unsettled, is_beside, line_counted, excused_sub, excused, turn_deviation, due_before, unknown_place, going_on, sub_at, joining_at, port_deviation, sub_in, sub_shown, sub_of, figures_with, joining_after, message_after, line_joined, line_with, line_after, verdict, after_number, after_turn};
+ghost use Rattle.judge.specs.Lines.{new_sub, new_line, next_number, number_kind, number_unless, number_deviation, gap_since, early_since, early_deviation, delay_after, unsettled_sub, unsettled, restarted, is_restart, is_beside, line_counted, excused_sub, excused, turn_deviation, due_before, unknown_place, going_on, sub_at, joining_at, port_deviation, sub_in, sub_shown, sub_of, figures_with, joining_after, message_after, line_joined, line_with, line_after, verdict, after_number, after_turn};
 
 use crate::fields::Fields;
 use crate::figures::Figures;
@@ -84,6 +85,16 @@ fn next_number(late: bool, last: Option<Last>) -> Option<u8>
         Some(last) => Some(last.number + 1),
         None if late => None,
         None => Some(0),
+    }
+}
+
+/// Returns the kind of a number that isn't the next one.
+fn number_kind(number: u8, last: Option<Last>) -> FindingKind
+    ensures { result ≡ number_kind number last }
+{
+    match last {
+        Some(last) if number == 0 && last.number != 255 => FindingKind::Restart,
+        _ => FindingKind::Number,
     }
 }
 
@@ -208,7 +219,8 @@ impl Line {
         if number == wanted {
             return None;
         }
-        Some(Deviation::new(FindingKind::Number, number as u64, wanted as u64))
+        let kind = number_kind(number, self.last);
+        Some(Deviation::new(kind, number as u64, wanted as u64))
     }
 
     /// Returns a finding if a frame comes before each release time that the earlier frames leave it.
@@ -225,10 +237,25 @@ impl Line {
         Some(Deviation::new(FindingKind::Early, since as u64, wanted as u64))
     }
 
+    /// Returns the line after a finding on its number, if there is one. After a restart each sub-VL begins its messages
+    /// anew.
+    fn numbered(&self, arinc: bool, number: Option<Deviation>) -> Line
+        ensures { result ≡ after_number arinc number self.now }
+    {
+        match number {
+            Some(deviation) if matches!(deviation.kind, FindingKind::Restart) => {
+                let fresh = Line::new(false, arinc);
+                let subs = fresh.subs;
+                Line { subs, ..*self }
+            }
+            _ => self.after(number, true),
+        }
+    }
+
     /// Returns the line after a finding, if there is one: no piece is due, and after a loss nothing is known of
     /// messages.
     fn after(&self, finding: Option<Deviation>, lost: bool) -> Line
-        ensures number { lost ≡ true → result ≡ after_number finding self.now }
+        ensures lost { lost ≡ true → result ≡ (if is_some finding then unsettled self.now else self.now) }
         ensures turn { lost ≡ false → result ≡ after_turn finding self.now }
     {
         if finding.is_none() {
@@ -284,7 +311,8 @@ impl Line {
         if !measure.arinc {
             return sub_in(fields);
         }
-        let numbered = self.after(self.number_deviation(measure.late, fields.number), true);
+        let number = self.number_deviation(measure.late, fields.number);
+        let numbered = self.numbered(measure.arinc, number);
         match port {
             Some(port) => port.sub,
             None => going_on(fields, &numbered.subs).unwrap_or(4) as u8,
@@ -346,7 +374,7 @@ impl Line {
         let fields = &arrived.fields;
         let number = self.number_deviation(measure.late, fields.number);
         let early = self.early_deviation(measure.gap, arrived.at);
-        let numbered = self.after(number, true);
+        let numbered = self.numbered(measure.arinc, number);
         if is_beside(measure, fields) {
             *self = numbered.counted(measure, arrived);
             return Verdict {

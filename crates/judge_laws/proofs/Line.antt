@@ -1,6 +1,6 @@
 -- A line of a judge: what it knows of a link on a network while the frames `rest` of a legal stream are to come, and that
 -- nothing is wrong with the next one: its number, its gap, its turn and its piece.
-use Rattle.judge_laws.proofs.Names.{Arrived, Bool, Entry, IsApart, IsFollowedInTurn, IsNumbered, IsPlan, IsSpaced, Joining, Last, Line, List, Measure, Net, None, Option, Options, Plan, PortPlan, Some, Stamp, Sub, Tag, TakesTurns, Verdict, arith, arrived, bag_micros, before_next, cases_Bool, cases_eq, delay_after, due_before, early_deviation, early_since, entry_number, false, fields_of, figures_with, get_or, get_or-set_other, get_or-set_same, head_now, inl, inr, joined, length, length-set, line_after, line_with, link_plan_at, lt-ltb, measure_of, min, more_in, names, nat_lt, nat_tests, new_sub, next_number, number_after, number_deviation, number_unless, passed_by, position-Some, refl, sequence_number, settled, slice_set, stamp_of, sub_at, sub_in, sub_stream, sym, told, true, turn_deviation, verdict, ℕ, [], ◌&&◌, ◌*◌, ◌++◌, ◌+◌, ◌-◌, ◌<◌, ◌^◌, ◌∷◌, ◌≡◌, ◌≢◌, ◌≤◌}
+use Rattle.judge_laws.proofs.Names.{Arrived, Bool, Entry, IsApart, IsFollowedInTurn, IsNumbered, IsPlan, IsSpaced, Joining, Last, Line, List, Measure, Net, None, Option, Options, Plan, PortPlan, Some, Stamp, Sub, Tag, TakesTurns, Verdict, arith, arrived, bag_micros, before_next, cases_Bool, cases_eq, delay_after, due_before, early_deviation, early_since, entry_number, false, fields_of, figures_with, get_or, get_or-set_other, get_or-set_same, head_now, inl, inr, joined, length, length-set, line_after, line_with, link_plan_at, lt-ltb, measure_of, min, more_in, names, nat_lt, nat_tests, new_sub, next_number, number_after, number_deviation, number_kind, number_unless, passed_by, position-Some, refl, sequence_number, settled, slice_set, stamp_of, sub_at, sub_in, sub_stream, sym, told, true, turn_deviation, verdict, ℕ, [], ◌&&◌, ◌*◌, ◌++◌, ◌+◌, ◌-◌, ◌<◌, ◌^◌, ◌∷◌, ◌≡◌, ◌≢◌, ◌≤◌}
 use Rattle.judge_laws.proofs.Message.{IsGood, port_at}
 use Rattle.judge_laws.proofs.Pieces.{IsAwaiting, IsClean, one_frame}
 use Rattle.judge_laws.proofs.Reading.{more_of, with_other, with_own}
@@ -32,7 +32,8 @@ pub number_goes_on : (n : ℕ) → number_after (sequence_number n) ≡ sequence
 number_goes_on n = grind (arith, nat_tests)
 
 pub number_fits : (P : ℕ → Last → Type 0) (i number : ℕ) (before : Option Stamp) (late : Bool) (last : Option Last)
-    → IsLast P late i before last → number ≡ sequence_number i → number_unless number (next_number late last) ≡ None
+    → IsLast P late i before last → number ≡ sequence_number i
+    → number_unless (number_kind number last) number (next_number late last) ≡ None
 number_fits P i number before late last is next = grind (arith, nat_tests, number_goes_on)
 
 pub none_early : (origin gap i at recorded : ℕ) (late : Bool) (before : Option Stamp) (last : Option Last)

@@ -1,6 +1,6 @@
 -- The lines and the frames of a sub-VL in which a judge finds nothing: the frames are numbered and spaced and take turns, and are
 -- the fragments of messages.
-use Rattle.judge_laws.proofs.Names.{All, All-cons, All-contains, All-nil, Arrived, Bool, Entry, delay_after, IsAllowed, IsApart, IsLink, IsNumbered, IsPlan, IsPort, IsSpaced, Joining, Last, Line, List, Measure, Net, None, Option, Options, Piece, Plan, PortPlan, Recorded, Sent, Some, Stamp, Sub, TakesTurns, Verdict, ap, append-nil, append_assoc, arith, bag_micros, blanked, cases_Bool, cases_eq, cases_lt, cut_whole, datagram, drop, drop_at, due_before, early_since, entry_number, fails_before_first, false, fields_of, figures_with, fragments, fragments_from, get_or, get_or_past, inl, inr, le-ltb, left_none, length, length-append, length-drop, length-set, link_plan_at, lt-ltb, map, nat_tests, new_sub, next_number, next_of, number_deviation, number_in, number_unless, passed_by, piece_at, position, refl, sequence_number, slice_set, stamp_of, step_of, sub_at, sub_in, subst, suc, sym, tag_of, take_at, those_with, true, turn_deviation, turn_if, unnumbered, verdict, ℕ, [], ◌*◌, ◌++◌, ◌+◌, ◌-◌, ◌/◌, ◌<◌, ◌^◌, ◌∙◌, ◌∷◌, ◌≡◌, ◌≤◌, time_of, EndsWhole, IsOctets, entry_of}
+use Rattle.judge_laws.proofs.Names.{All, All-cons, All-contains, All-nil, Arrived, Bool, Entry, delay_after, IsAllowed, IsApart, IsLink, IsNumbered, IsPlan, IsPort, IsSpaced, Joining, Last, Line, List, Measure, Net, None, Option, Options, Piece, Plan, PortPlan, Recorded, Sent, Some, Stamp, Sub, TakesTurns, Verdict, ap, append-nil, append_assoc, arith, bag_micros, blanked, cases_Bool, cases_eq, cases_lt, cut_whole, datagram, drop, drop_at, due_before, early_since, entry_number, fails_before_first, false, fields_of, figures_with, fragments, fragments_from, get_or, get_or_past, inl, inr, le-ltb, left_none, length, length-append, length-drop, length-set, link_plan_at, lt-ltb, map, nat_tests, new_sub, next_number, next_of, number_deviation, number_in, number_kind, number_unless, passed_by, piece_at, position, refl, sequence_number, slice_set, stamp_of, step_of, sub_at, sub_in, subst, suc, sym, tag_of, take_at, those_with, true, turn_deviation, turn_if, unnumbered, verdict, ℕ, [], ◌*◌, ◌++◌, ◌+◌, ◌-◌, ◌/◌, ◌<◌, ◌^◌, ◌∙◌, ◌∷◌, ◌≡◌, ◌≤◌, time_of, EndsWhole, IsOctets, entry_of}
 use Rattle.judge_laws.proofs.Line.{AreDue, IsFaultless, IsLast, IsRight, come_of, faultless, is_passed, line_of, line_then, measure_at, number_goes_on, own_is, own_sub, right_after, sub_new_at, sub_of, sub_other, sub_other_at, sub_same}
 use Rattle.judge_laws.proofs.Message.{IsDue, IsNext, joining_after, last_joined, more_joined, port_at, room_at}
 use Rattle.judge_laws.proofs.Pieces.{comes_first, cut_at, due_from}
@@ -45,7 +45,7 @@ abbrev pub IsLastAt : ℕ → ℕ → Option Stamp → Option Last → Type 0
 IsLastAt jitter i before last = IsLast (IsLet jitter) false i before last
 
 number_from : (jitter i number : ℕ) (before : Option Stamp) (last : Option Last) → IsLastAt jitter i before last
-    → number_unless number (next_number false last) ≡ None → number ≡ sequence_number i
+    → number_unless (number_kind number last) number (next_number false last) ≡ None → number ≡ sequence_number i
 number_from jitter i number before last is none = grind (arith, nat_tests, number_goes_on)
 
 apart_from : (gap jitter i at : ℕ) (measure : Measure) (before : Option Stamp) (last : Option Last) → measure.gap ≡ 1000 * gap
