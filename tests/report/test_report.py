@@ -379,6 +379,8 @@ def queue_faults() -> Iterator[str]:
     """What is wrong with reports on plans that lose messages, each with the end of its verdict and rows of its queues."""
     busy = {"id": 1, "bag_ms": 8, "lmax": 64, "sub_vls": 1, "capacity": 4}
     many = [{"id": k, "bag_ms": 128, "lmax": 64, "sub_vls": 1, "capacity": 1} for k in range(1, 41)]
+    # (a sub-VL takes 60 % of this link, and the other one 10 %)
+    uneven = [{"id": 1, "bag_ms": 1, "lmax": 64, "sub_vls": 2, "capacity": 4}]
     pair = [port_of(k, k, 0, 20) for k in range(1, 41)] + [port_of(41, 40, 0, 20)]
     three, close = [port_of(k, 1, 0, 1) for k in (10, 11, 12)], {10: 23_386, 11: 26_277, 12: 22_633}
     for links, ports, periods, ends, row in [
@@ -388,6 +390,7 @@ def queue_faults() -> Iterator[str]:
         (many, pair, dict.fromkeys(range(1, 42), 1_000_000), "queues may get full: 1 of 40", ["40", "0", "1", "2", "no"]),
         (many, pair, dict.fromkeys(range(1, 41), 1_000_000), "queues suffice; not judged: 1", ["40", "0", "1", "-", "-"]),
         ([busy], three, close, "queues may get full: 1 of 1", ["1", "0", "4", "unknown", "no"]),
+        (uneven, [port_of(10, 1, 0, 1), port_of(11, 1, 1, 137)], {10: 10_000, 11: 10_000}, "queues suffice", ["1", "1", "4", "1", "yes"]),
     ]:
         text, given = configuration(links, ports), traffic.PORTS + "".join(f"{k},,{period},100000000\n" for k, period in periods.items())
         save("traffic.csv", given)

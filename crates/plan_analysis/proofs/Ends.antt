@@ -1,5 +1,5 @@
 -- The least time that is enough for a message, found round by round.
-use Rattle.plan_analysis.proofs.Names.{ℕ, ◌≡◌, ◌+◌, ◌-◌, ◌*◌, ◌/◌, ◌<◌, ◌≤◌, List, arith, inl, inr, cases_lt, mul-le, mul-add, div-mul-le_self, lt-mul-div-succ, Flow, IsEnough, IsLate, arrived, busy_limit}
+use Rattle.plan_analysis.proofs.Names.{ℕ, ◌+◌, ◌*◌, ◌/◌, ◌<◌, ◌≤◌, List, arith, inl, inr, cases_lt, mul-le, mul-add, div-mul-le_self, lt-mul-div-succ, Flow, IsEnough, IsLate, arrived, busy_limit}
 use Rattle.plan_analysis.proofs.Busy.{arrived_mono}
 
 -- the rounds within a time end by it

@@ -1,5 +1,5 @@
 -- The groups of a sub-VL, and the least wait in them.
-use Rattle.plan_analysis.proofs.Names.{ℕ, suc, ◌≡◌, ◌+◌, ◌*◌, ◌<◌, ◌≤◌, List, [], ◌∷◌, ◌++◌, Option, None, Some, arith, Bool, true, false, ◌&&◌, take, drop, length, refl, ap, ◌∙◌, sym, inl, inr, cases_lt, cases_eq, mul-le, subst, option_map, IfSome, IfNone, Plan, LinkPlan, Sender, Flow, Peak, AreMates, IsGroupOver, IsGroupWait, IsGroupWithin, IsSubWait, IsSubNeed, IsNeed, IsWaitInGroup, IsOver, IsKnownBacklog, IsBacklog, busy_limit, flows_of, flows_in, flows_with, round_of, have_periods, mates_have_periods, least_of, link_share, whole_share, append-nil, arrived, drop_all, messages, min, take-length, unwrap_or}
+use Rattle.plan_analysis.proofs.Names.{ℕ, ◌≡◌, ◌+◌, ◌<◌, ◌≤◌, List, [], ◌∷◌, ◌++◌, Option, None, Some, arith, Bool, true, false, ◌&&◌, take, drop, length, refl, ap, ◌∙◌, sym, inl, inr, cases_lt, cases_eq, mul-le, subst, option_map, IfSome, IfNone, Plan, LinkPlan, Sender, Flow, Peak, AreMates, IsGroupOver, IsGroupWait, IsGroupWithin, IsSubWait, IsSubNeed, IsNeed, IsWaitInGroup, IsOver, IsKnownBacklog, IsBacklog, busy_limit, flows_of, flows_in, flows_with, round_of, have_periods, mates_have_periods, least_of, link_share, whole_share, append-nil, arrived, drop_all, messages, min, take-length, unwrap_or}
 use Rattle.plan_analysis.specs.Traffic.{is_with}
 
 -- no wait is known of a group that never catches up

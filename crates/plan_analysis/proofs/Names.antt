@@ -1,7 +1,7 @@
 -- Names of other crates, and of this crate's definitions, for the proofs here.
 pub use Rattle.std.proofs.Common.{arith, ℕ, zero, suc, ◌≡◌, ◌+◌, ◌-◌, ◌*◌, ◌/◌, ◌^◌, ◌<◌, ◌≤◌, List, [], ◌∷◌, length, get_or, refl, ap, ◌∙◌, sym, inl, inr, ◌⊎◌, max, min, below_more, ◌++◌, map, Option, subst, take, drop, true, false, None, Some}
 pub use Rattle.std.proofs.lemmas.List.{get_or_append_left, get_or_default, get_or_push, append_assoc, append-nil, drop_all, length-append, take-append-drop}
-pub use Rattle.std.specs.Prelude.{All, Bool, ◌&&◌, IfNone, IfSome, count_by, flat_map, option_map, sum_by, unwrap_or}
+pub use Rattle.std.specs.Prelude.{All, Bool, ◌&&◌, IfNone, IfOk, IfSome, count_by, flat_map, option_map, sum_by, unwrap_or}
 pub use Rattle.std.specs.Int.{div_ceil}
 pub use Rattle.std.proofs.lemmas.Bool.{cases_eq, cases_lt}
 pub use Rattle.std.proofs.lemmas.List.Elements.{All-cons, All-head, All-nil, All-tail, All-weaker, All-push}

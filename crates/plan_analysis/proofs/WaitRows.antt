@@ -1,5 +1,5 @@
 -- Worked rows of the law of the wait by traffic.
-use Rattle.plan_analysis.proofs.Names.{arith, refl, MeetsByTraffic, MeetsInGroup, MeetsWithJitter, NeedsPeriods}
+use Rattle.plan_analysis.proofs.Names.{arith, refl, ◌+◌, ◌*◌, ◌/◌, MeetsByTraffic, MeetsInGroup, MeetsWithJitter, NeedsPeriods}
 
 pub meets_by_traffic : MeetsByTraffic
 meets_by_traffic = record {

@@ -1,5 +1,5 @@
 -- A message of a group is released within its wait, and the greatest wait in a group is found.
-use Rattle.plan_analysis.proofs.Names.{ℕ, ◌≡◌, ◌+◌, ◌*◌, ◌/◌, ◌<◌, ◌≤◌, List, ◌++◌, arith, inl, inr, cases_lt, mul-le, sym, Flow, IsBusyTime, IsBusyUntil, WaitsInGroup, IsWaitInGroup, IsWaitAt, IsMetBy, IsSentIn, IsTooLong, IsFlow, All, length, arrived, arrived_before, div_ceil, sum_by-append, subst, ◌⊎◌}
+use Rattle.plan_analysis.proofs.Names.{ℕ, ◌≡◌, ◌+◌, ◌*◌, ◌/◌, ◌≤◌, List, ◌++◌, arith, inl, inr, cases_lt, mul-le, sym, Flow, IsBusyTime, IsBusyUntil, WaitsInGroup, IsWaitInGroup, IsWaitAt, IsMetBy, IsSentIn, IsTooLong, IsFlow, All, length, arrived, arrived_before, div_ceil, sum_by-append, subst, ◌⊎◌}
 use Rattle.plan_analysis.proofs.Busy.{some_arrived}
 
 -- what two groups of ports hand over

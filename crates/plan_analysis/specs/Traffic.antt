@@ -111,8 +111,8 @@ abbrev pub IsKnownBacklog : (round : ℕ) → List Flow → Option ℕ → Type 
 IsKnownBacklog round flows None = (wait : ℕ) → IsWaitInGroup round flows [] wait → ⊥
 IsKnownBacklog round flows (Some backlog) = IsBacklog round flows backlog
 
--- The places that a queue needs for its traffic. Its messages are no more than the backlog, if that is known; and all of
--- them were handed over within the wait of the oldest, as each is begun before its wait is over.
+-- The places that a queue needs for its traffic. Its messages are no more than the backlog, if that is known; and all
+-- of them were handed over within the wait of the oldest, as each is begun before its wait is over.
 pub record IsNeed (round : ℕ) (flows : List Flow) (wait need : ℕ) : Type 0 where
   pub backlog : Option ℕ
   pub is_backlog : IsKnownBacklog round flows backlog
@@ -238,8 +238,8 @@ abbrev pub IsWaitOf : ℕ → Plan → List Sender → Sender → ℕ → Type 0
 IsWaitOf late plan senders sender wait =
     IsSubWait late plan (link_of plan sender.port) sender.port.sub senders wait
 
--- The places that the queue of a sub-VL of a link needs, if each of its senders has a period. The backlog is that of the
--- sub-VL without mates.
+-- The places that the queue of a sub-VL of a link needs, if each of its senders has a period. The backlog is that of
+-- the sub-VL without mates.
 pub record IsSubNeed (late : ℕ) (plan : Plan) (link : LinkPlan) (sub : ℕ) (senders : List Sender)
     (need : ℕ) : Type 0 where
   pub wait : ℕ

@@ -17,7 +17,7 @@ pub(crate) struct Flow {
 pub(crate) struct Peak {
     // the longest time from the acceptance of a message to the release of its last fragment, in microseconds
     pub wait: u64,
-    // the most messages queued if the group's rounds are those of the sub-VL alone
+    // the most messages queued, by the group's rounds
     pub places: u64,
 }
 
@@ -194,8 +194,8 @@ fn at_time(
     })
 }
 
-/// Returns the greater of a wait and that of a message that is handed over at this time as fragment `own` of its sub-VL.
-/// No end is looked for if one that is enough comes within the wait.
+/// Returns the greater of a wait and that of a message that is handed over at this time as fragment `own` of its
+/// sub-VL. No end is looked for if one that is enough comes within the wait.
 #[tactic(auto, using(crate::proofs::Ends::part_least, crate::proofs::Ends::few_rounds, crate::proofs::Ends::rounds_most))]
 fn longer_wait(round: u64, own: u64, rest: &[Flow], time: u64, wait: u64) -> Option<u64>
     requires round { (1 ≤ round) × (round ≤ 5640000) }
@@ -218,8 +218,8 @@ fn longer_wait(round: u64, own: u64, rest: &[Flow], time: u64, wait: u64) -> Opt
     Some(wait.max(end.saturating_sub(time)))
 }
 
-/// Returns the least end that is enough for a message that is handed over at this time as fragment `own` of its sub-VL,
-/// if its wait is within the limit.
+/// Returns the least end that is enough for a message that is handed over at this time as fragment `own` of its
+/// sub-VL, if its wait is within the limit.
 #[tactic(auto, using(crate::proofs::Ends::first_end, crate::proofs::Ends::next_end, crate::proofs::Ends::last_end, crate::proofs::Ends::late_end, crate::proofs::Ends::end_most, crate::proofs::Ends::few_rounds, crate::proofs::Ends::rounds_most))]
 fn end_of(round: u64, own: u64, rest: &[Flow], time: u64) -> Option<u64>
     requires round { (1 ≤ round) × (round ≤ 5640000) }

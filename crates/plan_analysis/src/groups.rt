@@ -35,7 +35,7 @@ impl InGroup {
     }
 }
 
-/// Returns a sub-VL in a group. The first `count` of the group's flows are those of the sub-VL.
+/// Returns a sub-VL in a group. Its flows are the first `count` of the group's.
 #[tactic(auto, using(crate::proofs::Mates::wait_most, crate::proofs::Mates::never_waits))]
 pub(crate) fn group_of(round: u64, flows: &[Flow], count: usize) -> InGroup
     requires round { (1 ≤ round) × (round ≤ 5640000) }
@@ -44,11 +44,13 @@ pub(crate) fn group_of(round: u64, flows: &[Flow], count: usize) -> InGroup
     requires own { (1 ≤ count) × (count ≤ length flows.now) }
     ensures over { result.over ≡ true → IsOver round flows.now }
     ensures within { result.over ≡ false → link_share round flows.now ≤ whole_share }
-    ensures wait { IfSome result.peak (λ peak. IsWaitInGroup round (take count flows.now) (drop count flows.now) peak.wait) }
+    ensures wait { IfSome result.peak (λ peak.
+        IsWaitInGroup round (take count flows.now) (drop count flows.now) peak.wait) }
     ensures short { IfSome result.peak (λ peak. peak.wait ≤ 369623040000) }
     ensures places { IfSome result.peak (λ peak. drop count flows.now ≡ []
         → IsBacklog round (take count flows.now) peak.places) }
-    ensures none { IfNone result.peak ((wait : ℕ) → IsWaitInGroup round (take count flows.now) (drop count flows.now) wait → ⊥) }
+    ensures none { IfNone result.peak ((wait : ℕ)
+        → IsWaitInGroup round (take count flows.now) (drop count flows.now) wait → ⊥) }
 {
     if is_overloaded(round, flows) {
         return InGroup {
@@ -68,10 +70,12 @@ fn peak_of(round: u64, flows: &[Flow], count: usize) -> Option<Peak>
     requires flows { All IsFlow flows.now }
     requires few { length flows.now ≤ 512 }
     requires own { (1 ≤ count) × (count ≤ length flows.now) }
-    ensures wait { IfSome result (λ peak. IsWaitInGroup round (take count flows.now) (drop count flows.now) peak.wait) }
+    ensures wait { IfSome result (λ peak.
+        IsWaitInGroup round (take count flows.now) (drop count flows.now) peak.wait) }
     ensures places { IfSome result (λ peak. drop count flows.now ≡ []
         → IsBacklog round (take count flows.now) peak.places) }
-    ensures none { IfNone result ((wait : ℕ) → IsWaitInGroup round (take count flows.now) (drop count flows.now) wait → ⊥) }
+    ensures none { IfNone result ((wait : ℕ)
+        → IsWaitInGroup round (take count flows.now) (drop count flows.now) wait → ⊥) }
 {
     let rounds = busy_rounds(round, flows)?;
     let (own, rest) = flows.split_at(count);
@@ -104,7 +108,7 @@ fn is_outside(link: &LinkPlan, ports: &[PortPlan], sub: u8, mates: u8, other: u8
     has_port(link, other, ports) && other != sub && !has_sub(mates, other)
 }
 
-/// Returns the flows of a sub-VL, which are `own`, and then those of its mates, if these make a group with it.
+/// Returns the flows `own` of a sub-VL, and after them its mates' flows, if these make a group with it.
 pub(crate) fn flows_in(
     alloc: Global,
     config: &Config,
@@ -117,7 +121,8 @@ pub(crate) fn flows_in(
     requires senders { All HasGoodPeriod senders.now }
     requires mates { mates < 16 }
     requires own { All IsFlow own.now }
-    ensures are { IfOk result (λ o. AreFlowsIn config.now link.now sub senders.now mates own.now (option_map (λ flows. flows.items) o)) }
+    ensures are { IfOk result (λ o.
+        AreFlowsIn config.now link.now sub senders.now mates own.now (option_map (λ flows. flows.items) o)) }
     ensures good { IfOk result (λ o. IfSome o (λ flows. All IsFlow flows.items)) }
     ensures few { IfOk result (λ o. IfSome o (λ flows. length flows.items ≤ length own.now + length senders.now)) }
 {

@@ -3,7 +3,7 @@ ghost use Rattle.plan_analysis.specs.KeptPeriods.{MeetsByTraffic, MeetsInGroup, 
 
 /// If each port of a group of sub-VLs keeps its period with its jitter, and the group releases a fragment each round
 /// while it has something, a message of one of them is wholly released within the wait by traffic of its acceptance.
-#[tactic(auto, using(crate::proofs::Waits::waits_in_group, crate::proofs::WaitRows::meets_by_traffic, crate::proofs::WaitRows::meets_with_jitter, crate::proofs::WaitRows::meets_in_group, crate::proofs::WaitRows::needs_periods))]
+#[tactic(auto, using(crate::proofs::WaitRows::meets_by_traffic, crate::proofs::WaitRows::meets_with_jitter, crate::proofs::WaitRows::meets_in_group, crate::proofs::WaitRows::needs_periods))]
 pub fn wait_by_traffic()
     ensures wait { WaitsInGroup }
 
