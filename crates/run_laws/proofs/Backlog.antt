@@ -1,7 +1,7 @@
 -- How many messages a queue holds, if the ports of its sub-VL keep periods and it releases a fragment each round.
-use Rattle.run_laws.proofs.Names.{ℕ, suc, zero, ◌≡◌, ◌+◌, ◌-◌, ◌*◌, ◌/◌, ◌≤◌, List, [], ◌∷◌, ◌++◌, Bool, true, false, cond, nat_eq, nat_le, nat_tests, length, map, arith, refl, ap, sym, subst, ◌∙◌, inl, inr, cases_lt, map-append, length-map, filter, filter-append, All, All-cons, All-head, All-nil, All-tail, All-weaker, All-filter, all_back, all_front, all_of_map, filter_passes, sum_by, sum_by-append, sum_by-cons, sum_by-filter_both, not, mul-le, le-div, div-zero, div-mul-le_self, unwrap_or, div_ceil, Plan, IsPlan, link_plan_at, room_of, LinkPlan, PortPlan, A, Sent, IsAllowed, fragments_of, pieces_of, port_pieces, is_on, Sender, have_periods, senders_on, flows_of, flow_of, arrived, messages, greatest_message, Arrival, AreApart, KeepPeriods, get_or, is_before, messages_in, times_in, queued_of}
+use Rattle.run_laws.proofs.Names.{ℕ, suc, zero, ◌≡◌, ◌+◌, ◌-◌, ◌*◌, ◌/◌, ◌≤◌, List, [], ◌∷◌, ◌++◌, Bool, true, false, cond, nat_eq, nat_le, nat_tests, length, map, arith, refl, ap, sym, subst, ◌∙◌, inl, inr, cases_lt, map-append, length-map, filter, filter-append, All, All-cons, All-head, All-nil, All-tail, All-weaker, All-filter, all_back, all_front, all_of_map, filter_passes, sum_by, sum_by-append, sum_by-cons, sum_by-filter_both, not, mul-le, le-div, div-zero, div-mul-le_self, unwrap_or, div_ceil, Plan, IsPlan, link_plan_at, room_of, LinkPlan, PortPlan, A, Sent, IsAllowed, fragments_of, pieces_of, port_pieces, is_on, Sender, have_periods, senders_on, flows_of, flow_of, messages, greatest_message, Arrival, AreApart, KeepPeriods, get_or, is_before, messages_in, times_in, queued_of}
 use Rattle.run_laws.proofs.Pieces.{fragments_count}
-use Rattle.run_laws.proofs.KeptPeriods.{AreSized, IsAmong, IsKept, IsTimed, by_senders, filter_all, front_kept, is_within, most_is, most_of, of_sender, pieces_sized, still_kept, weight_of}
+use Rattle.run_laws.proofs.KeptPeriods.{AreSized, IsAmong, IsKept, IsTimed, by_senders, filter_all, front_kept, is_within, most_is, most_of, of_sender, still_kept, weight_of}
 
 -- The queue.
 
@@ -20,9 +20,6 @@ module _ (plan : Plan) (k : ℕ) (wide : 8 ≤ room_of (link_plan_at plan.links 
 
   some_piece : (m : Sent) → 1 ≤ piece m
   some_piece m = omega arith
-
-  queued_none : (m : Sent) (more : List Sent) → queued_of plan k (m ∷ more) 0 ≡ 1 + length more
-  queued_none m more = refl
 
   queued_some : (m : Sent) (more : List Sent) (gone : ℕ) → 1 ≤ gone
       → queued_of plan k (m ∷ more) gone ≡ queued_of plan k more (gone - piece m)
@@ -234,18 +231,6 @@ module _ (plan : Plan) (k s : ℕ) (valid : IsPlan plan) (senders : List Sender)
           let first = sum_by-cons (λ (b : Arrival). 1) a list in
           let rest = length_is list in
           omega arith
-
-  -- and their fragments
-  pub few_fragments : 8 ≤ room_of link.lmax → (q u : ℕ) (xs ys zs : List Arrival) → came ≡ xs ++ (ys ++ zs) → All (IsBetween q u) ys
-      → sum_by (weight_of (room_of link.lmax)) ys ≤ arrived (flows_of link s senders) u
-  few_fragments wide q u xs ys zs is all =
-      let weight : Arrival → ℕ = weight_of (room_of link.lmax) in
-      let part = sum_within weight q u xs ys zs all in
-      let same = ap (λ (list : List Arrival). sum_by weight (filter (is_within q (suc u)) list)) is in
-      let most = window (port_pieces link) weight (pieces_sized plan k s wide) q u in
-      let whole : arrived (flows_of link s senders) u ≡ most_of (port_pieces link) link s (λ p j. 1 + (u + j) / p) senders =
-      most_is (port_pieces link) link s (λ p j. 1 + (u + j) / p) (flow_of link) _ (λ d. refl) senders in
-      omega arith
 
 -- a message is no greater than the greatest
 pub greatest_most : (link : LinkPlan) (s : ℕ) (port : PortPlan) (senders : List Sender) → IsAmong port senders → is_on link s port ≡ true

@@ -1,5 +1,5 @@
 -- The worked requests of the law of a queue that is never full, by computation.
-use Rattle.run_laws.proofs.Names.{AreTimely, byte_sender, late_senders, load_at, ℕ, ◌≡◌, ◌+◌, ◌≤◌, [], ◌∷◌, refl, arith, Some, nil_isnt_cons, cutting, fragments_at, addresses, header_front, internet_header, link_header, udp_header, datagram, unnumbered, log, PortPlan, port_plan_at, IsKnownBacklog, IsWaitInGroup, IsNeed, Option, None, List, min, unwrap_or, ◌*◌, ◌/◌, AreApart, KeepPeriods, AreSendersOf, byte_plan, bytes_accepted, no_line, byte_line, failed_line, short_port, short_sent, AsksAfter, asked_at, QueueName, Refuses, Full, AskCase, FillsItsQueue, NeedsPlaces, asking_port, full_port, each, other_each, ap}
+use Rattle.run_laws.proofs.Names.{is_with, AreTimely, byte_sender, late_senders, load_at, ℕ, ◌≡◌, ◌+◌, ◌≤◌, [], ◌∷◌, refl, arith, Some, nil_isnt_cons, cutting, fragments_at, addresses, header_front, internet_header, link_header, udp_header, datagram, unnumbered, log, PortPlan, port_plan_at, IsKnownBacklog, IsWaitInGroup, IsNeed, Option, None, List, min, unwrap_or, ◌*◌, ◌/◌, KeepPeriods, AreSendersOf, byte_plan, bytes_accepted, no_line, byte_line, failed_line, short_sent, AsksAfter, asked_at, QueueName, Refuses, Full, AskCase, FillsItsQueue, NeedsPlaces, asking_port, full_port, each, other_each, ap}
 use Rattle.afdx_frame.specs.Checksum.{checksum}
 use Rattle.run_laws.proofs.NeededRuns.{in_time}
 use Rattle.run_laws.proofs.TrafficRows.{byte_none, byte_wait, keeps_one, near_fails, needs_traffic}
@@ -154,7 +154,7 @@ unfolding log checksum addresses header_front internet_header link_header udp_he
 load_early = refl
 
 fills_asks : AskCase 10 (each 1001) 1 0 0 0 [] [] 0 [] no_line no_line
-unfolding log
+unfolding is_with log
 fills_asks = record {
   senders_are = slow_is;
   wait_is = (refl, (byte_none (each 1001), slow_wait));
@@ -176,7 +176,7 @@ pub fills_its_queue : FillsItsQueue
 fills_its_queue = record { premises = fills_asks; is = refl; filled = filled }
 
 foreign_asks : AskCase 0 (other_each 1001) 1 1 0 0 (0 ∷ []) [] 0 [] no_line no_line
-unfolding log
+unfolding is_with log
 foreign_asks = record {
   senders_are = other_is;
   wait_is = (refl, (byte_none (other_each 1001), slow_wait));
@@ -192,7 +192,7 @@ foreign_asks = record {
 }
 
 short_asks : AskCase 1 (each 1000) 1 1 0 0 (0 ∷ []) [] 1000 [] no_line no_line
-unfolding log
+unfolding is_with log
 short_asks = record {
   senders_are = byte_is;
   wait_is = (refl, (byte_none (each 1000), byte_wait));
@@ -208,7 +208,7 @@ short_asks = record {
 }
 
 small_asks : AskCase 2 (each 1000) 2 1 0 0 (0 ∷ []) [] 1000 [] no_line no_line
-unfolding log
+unfolding is_with log
 small_asks = record {
   senders_are = byte_is;
   wait_is = (refl, (byte_none (each 1000), byte_wait));
@@ -224,7 +224,7 @@ small_asks = record {
 }
 
 unaccepted_asks : AskCase 3 (each 1001) 1 0 0 0 (0 ∷ []) [] 1001 (1000 ∷ []) no_line no_line
-unfolding log
+unfolding is_with log
 unaccepted_asks = record {
   senders_are = slow_is;
   wait_is = (refl, (byte_none (each 1001), slow_wait));
@@ -240,7 +240,7 @@ unaccepted_asks = record {
 }
 
 early_asks : AskCase 4 (each 1001) 1 2 1 0 (0 ∷ []) [] 1001 (1000 ∷ []) (byte_line 5000) (byte_line 5000)
-unfolding log
+unfolding is_with log
 early_asks = record {
   senders_are = slow_is;
   wait_is = (refl, (byte_none (each 1001), slow_wait));
@@ -256,7 +256,7 @@ early_asks = record {
 }
 
 owing_asks : AskCase 5 (each 1001) 1 1 1 0 [] [] 0 [] no_line no_line
-unfolding log
+unfolding is_with log
 owing_asks = record {
   senders_are = slow_is;
   wait_is = (refl, (byte_none (each 1001), slow_wait));
@@ -272,7 +272,7 @@ owing_asks = record {
 }
 
 unkept_asks : AskCase 6 (each 1001) 1 1 0 0 (0 ∷ []) [] 0 [] no_line no_line
-unfolding log
+unfolding is_with log
 unkept_asks = record {
   senders_are = slow_is;
   wait_is = (refl, (byte_none (each 1001), slow_wait));
@@ -288,7 +288,7 @@ unkept_asks = record {
 }
 
 hasty_asks : AskCase 6 (late_senders 999) 1 1 0 0 (0 ∷ []) [] 1000 [] no_line no_line
-unfolding log
+unfolding is_with log
 hasty_asks = record {
   senders_are = late_is;
   wait_is = (refl, (byte_none (late_senders 999), late_wait));
@@ -304,7 +304,7 @@ hasty_asks = record {
 }
 
 twice_asks : AskCase 6 (each 1001) 1 0 0 0 [] (short_sent 0 ∷ []) 0 [] no_line no_line
-unfolding log
+unfolding is_with log
 twice_asks = record {
   senders_are = slow_is;
   wait_is = (refl, (byte_none (each 1001), slow_wait));
@@ -320,7 +320,7 @@ twice_asks = record {
 }
 
 unfound_asks : AskCase 7 (each 1001) 1 1 0 0 (0 ∷ []) [] 1001 (1000 ∷ []) no_line no_line
-unfolding log
+unfolding is_with log
 unfound_asks = record {
   senders_are = slow_is;
   wait_is = (refl, (byte_none (each 1001), slow_wait));
@@ -336,7 +336,7 @@ unfound_asks = record {
 }
 
 down_asks : AskCase 8 (each 1001) 1 1 0 0 (0 ∷ []) [] 1001 (1000 ∷ []) failed_line failed_line
-unfolding log
+unfolding is_with log
 down_asks = record {
   senders_are = slow_is;
   wait_is = (refl, (byte_none (each 1001), slow_wait));
@@ -352,7 +352,7 @@ down_asks = record {
 }
 
 late_asks : AskCase 9 (each 1001) 1 1 0 0 (0 ∷ []) [] 1001 [] no_line no_line
-unfolding log
+unfolding is_with log
 late_asks = record {
   senders_are = slow_is;
   wait_is = (refl, (byte_none (each 1001), slow_wait));

@@ -143,4 +143,3 @@ module _ (subs : ℕ) (uses group : ℕ → Bool) (gap late end : ℕ) (Comes : 
       let l : ℕ = behind subs last in
       let fewer = mul-le (round * f - served_since x l) (gap + late) (round * f) (gap + late) (omega arith) (omega arith) in
       in_time polls x l f start start last xl xi (behind_lt subs last xl) after (is_behind subs last) served u own comes (λ h. omega arith)
-

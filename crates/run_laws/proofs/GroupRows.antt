@@ -1,5 +1,5 @@
 -- The worked runs of the law of a message in a group, by computation.
-use Rattle.run_laws.proofs.Names.{A, All, All-cons, All-nil, AreMates, AreSendersOf, ArePolls, Arrival, Drains, HasTraffic, IfSome, IsGroupPoll, IsGroupRun, IsGroupWait, IsPlan, IsPrefixOf, IsWaitInGroup, Served, subst, sym, KeepPeriod, KeepPeriods, Lines, List, NeedsItsMates, PairReleased, Released, Sender, Some, TakesItsGroupWait, accepted_at, accepted_by, addresses, arith, blanked, cases_lt, crossed_line, cutting, datagram, entry, filter, fragments_at, fragments_of, has_sub, header_front, inl, inr, internet_header, is_from, is_in, length, lines_by, link_header, log, no_line, pair_accepted, pair_arrivals, pair_line, pair_link, pair_plan, pair_senders, refl, seen_of, short_frame, short_port, short_sent, stream_at, suc, times_in, true, udp_header, unnumbered, zero, ℕ, ◌*◌, ◌+◌, ◌/◌, ◌<◌, ◌≡◌, ◌≤◌, ◌++◌, [], ◌∷◌}
+use Rattle.run_laws.proofs.Names.{is_with, A, All-cons, All-nil, AreMates, ArePolls, Arrival, Drains, HasTraffic, IfSome, IsGroupPoll, IsGroupRun, IsPlan, IsPrefixOf, IsWaitInGroup, Served, subst, sym, KeepPeriod, KeepPeriods, Lines, List, NeedsItsMates, PairReleased, Released, Sender, Some, TakesItsGroupWait, accepted_at, accepted_by, apart_arrivals, addresses, arith, blanked, cases_lt, crossed_line, cutting, datagram, entry, filter, fragments_at, fragments_of, has_sub, header_front, inl, inr, internet_header, is_from, is_in, length, lines_by, link_header, log, no_line, pair_accepted, pair_arrivals, pair_line, pair_link, pair_plan, pair_senders, refl, seen_of, short_frame, short_port, short_sent, stream_at, suc, times_in, true, udp_header, unnumbered, zero, ℕ, ◌*◌, ◌+◌, ◌/◌, ◌<◌, ◌≡◌, ◌≤◌, [], ◌∷◌}
 use Rattle.afdx_frame.specs.Checksum.{checksum}
 use Rattle.run_laws.proofs.TrafficRows.{near_fails}
 use Rattle.run_laws.proofs.TrafficRun.{group_in_run_holds}
@@ -56,8 +56,11 @@ unfolding log checksum addresses header_front internet_header link_header udp_he
 pair_polls = (
   one_line,
   a_poll 1 1000 no_line one_line (Released 0 0) (sends_first 0) (omega arith),
-  (two_lines, a_poll 1 2000 one_line two_lines (Released 1 1) (sends_second 0) (omega arith),
-  (pair_line, a_poll 1 3000 two_lines pair_line (Released 1 2) sends_third (omega arith), refl)),
+  (
+    two_lines,
+    a_poll 1 2000 one_line two_lines (Released 1 1) (sends_second 0) (omega arith),
+    (pair_line, a_poll 1 3000 two_lines pair_line (Released 1 2) sends_third (omega arith), refl),
+  ),
 )
 
 crossed_polls : ArePolls (IsGroupPoll pair_plan (pair_accepted 2) 0 (is_in 1 1) (has_sub 1) (λ t. accepted_by pair_plan 0 [] (pair_arrivals 2 t)))
@@ -66,8 +69,11 @@ unfolding log checksum addresses header_front internet_header link_header udp_he
 crossed_polls = (
   one_line,
   a_poll 2 1000 no_line one_line (Released 0 0) (sends_first 1) (omega arith),
-  (two_lines, a_poll 2 2000 one_line two_lines (Released 1 1) (sends_second 1) (omega arith),
-  (crossed_line, a_poll 2 3000 two_lines crossed_line (Released 0 2) crosses (omega arith), refl)),
+  (
+    two_lines,
+    a_poll 2 2000 one_line two_lines (Released 1 1) (sends_second 1) (omega arith),
+    (crossed_line, a_poll 2 3000 two_lines crossed_line (Released 0 2) crosses (omega arith), refl),
+  ),
 )
 
 abbrev Keeps : List Arrival → Sender → Type 0
@@ -87,6 +93,13 @@ zero_keeps = record {
   ordered = grind arith;
   periods = All-cons (Keeps (pair_arrivals 1 0)) zero_sender (own_sender ∷ []) (record { dues = 0 ∷ []; due = grind arith; apart = grind arith })
       (All-cons (Keeps (pair_arrivals 1 0)) own_sender [] (none_of 4000 3999) (All-nil _));
+}
+
+apart_keeps : KeepPeriods pair_senders 0 (apart_arrivals 0)
+apart_keeps = record {
+  ordered = grind arith;
+  periods = All-cons (Keeps (apart_arrivals 0)) zero_sender (own_sender ∷ []) (record { dues = 0 ∷ 4000 ∷ []; due = grind arith; apart = grind arith })
+      (All-cons (Keeps (apart_arrivals 0)) own_sender [] (none_of 4000 3999) (All-nil _));
 }
 
 own_keeps : (many : ℕ) → KeepPeriods pair_senders 0 (pair_arrivals many 1)
@@ -142,6 +155,7 @@ lone_wait = record {
 }
 
 are_pair : (mates : ℕ) → mates < 2 → AreMates pair_plan pair_link 1 pair_senders mates
+unfolding is_with
 are_pair zero lt = record { few = omega arith; are = refl; periods = refl }
 are_pair (suc zero) lt = record { few = omega arith; are = refl; periods = refl }
 are_pair (suc (suc mates)) lt = absurd (omega arith)
@@ -159,6 +173,7 @@ pair_sooner = not_released pair_plan 0 1 2999 (short_sent 1 ∷ short_sent 1 ∷
     (entry 3000 (short_frame 1 1 2 A) ∷ []) (stream_at pair_plan 0 pair_line) refl (grind arith) (omega arith)
 
 pub takes_its_group_wait : TakesItsGroupWait
+unfolding is_with
 takes_its_group_wait = record {
   valid = pair_valid;
   senders = grind arith;
@@ -174,6 +189,16 @@ takes_its_group_wait = record {
   sooner = pair_sooner;
 }
 
+sent_early : ArePolls (IsGroupPoll pair_plan (pair_accepted 2) 0 (is_in 1 1) (has_sub 1) (λ t. accepted_by pair_plan 0 [] (apart_arrivals t)))
+    (1000 ∷ 2000 ∷ 3000 ∷ []) no_line crossed_line → ⊥
+unfolding log checksum addresses header_front internet_header link_header udp_header datagram unnumbered cutting fragments_at
+sent_early polls =
+    let last = polls.2.2 in
+    let few = last.1.sooner 0 (omega arith) refl in
+    let all : length (seen_of 0 (stream_at pair_plan 0 crossed_line)) ≤ 1 =
+    subst (λ (lines : Lines). length (seen_of 0 (stream_at pair_plan 0 lines)) ≤ 1) (sym last.2) few in
+    absurd (omega arith)
+
 pub needs_its_mates : NeedsItsMates
 unfolding log checksum addresses header_front internet_header link_header udp_header datagram unnumbered cutting fragments_at
 needs_its_mates = record {
@@ -184,4 +209,6 @@ needs_its_mates = record {
   begins = (blanked (short_frame 1 1 0 A) ∷ [], refl);
   missed = not_released pair_plan 0 1 3000 (short_sent 1 ∷ short_sent 1 ∷ []) [] (entry 1000 (short_frame 0 0 0 A) ∷ entry 2000 (short_frame 1 0 1 A)
       ∷ entry 3000 (short_frame 0 1 2 A) ∷ []) [] (stream_at pair_plan 0 crossed_line) refl (grind arith) (omega arith);
+  apart = apart_keeps;
+  early = sent_early;
 }

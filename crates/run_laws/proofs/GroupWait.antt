@@ -1,8 +1,8 @@
 -- When a message is wholly released, if the ports of a group of sub-VLs that contains its own keep periods.
-use Rattle.run_laws.proofs.Names.{ℕ, suc, zero, ◌≡◌, ◌+◌, ◌-◌, ◌*◌, ◌/◌, ◌<◌, ◌≤◌, List, [], ◌∷◌, ◌∙◌, ap, sym, subst, refl, Bool, true, false, cond, ◌&&◌, nat_eq, nat_le, nat_lt, nat_tests, min, arith, Option, inl, inr, cases_Bool, cases_lt, eq-eqb, eqb-true, Poll, Stamp, released_by, users_among, LinkPlan, Sender, flows_of, flows_with, arrived, arrived_before, IsWaitInGroup, IsBusyUntil, waits_in_group, lt-mul-div-succ, mul-div-le, mul-le}
-use Rattle.run_laws.proofs.Groups.{HasLess, has_less, in_group, outside, sum_in, sum_in_le, sum_in_same, sum_in_with}
+use Rattle.run_laws.proofs.Names.{ℕ, suc, ◌≡◌, ◌+◌, ◌-◌, ◌/◌, ◌<◌, ◌≤◌, List, [], ◌∷◌, subst, refl, Bool, true, false, cond, ◌&&◌, nat_le, nat_lt, nat_tests, min, arith, Option, inl, inr, cases_lt, Poll, Stamp, released_by, users_among, LinkPlan, Sender, flows_of, flows_with, arrived, arrived_before, IsWaitInGroup, IsBusyUntil, waits_in_group, lt-mul-div-succ, mul-div-le, mul-le}
+use Rattle.run_laws.proofs.Groups.{has_less, in_group, outside, sum_in, sum_in_le, sum_in_with}
 use Rattle.run_laws.proofs.Quiet.{AreAfter, IsBusy, IsQuietAt, counted_soon, gone_of, last_quiet, owed_of, released_more, round, rounds_since}
-use Rattle.run_laws.proofs.Ran.{Rise, SendsOwed, past_none, timely_rise, at_of}
+use Rattle.run_laws.proofs.Ran.{Rise, SendsOwed, past_none, timely_rise}
 
 -- What a sub-VL owes before each time, if it accepts so much in each time without its end, and with it.
 pub record KeepsOwed (owed before by : ℕ → ℕ) : Type 0 where
@@ -87,7 +87,7 @@ module _ (gap subs : ℕ) (uses : ℕ → Bool) (late until : ℕ) (some : 1 ≤
   some_turn = mul-le 1 1 (suc (users_among subs (outside uses group))) (gap + late) (omega arith) (omega arith)
 
   -- from the last quiet time on
-  module _ (q : ℕ) (from : start ≤ q) (long : at ≤ until) (quiet : IsQuietAt turn at until q all_owed all_gone Busy) 
+  module _ (q : ℕ) (from : start ≤ q) (long : at ≤ until) (quiet : IsQuietAt turn at until q all_owed all_gone Busy)
       (rest_keeps : KeepsRest rest_owed link mates senders) (sends : (y : ℕ) → y < subs → rest y ≡ true → SendsOwed y (owed y) (sent y) polls)
       (begin : (y : ℕ) → y < subs → rest y ≡ true → sent y ≤ owed y (start + 1)) where
     -- the group is busy until the message is released

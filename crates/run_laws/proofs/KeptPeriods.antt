@@ -1,6 +1,6 @@
 -- How many fragments, and how many messages, the ports of a sub-VL can have accepted in a time if they keep their periods
 -- with their jitter.
-use Rattle.run_laws.proofs.Names.{ℕ, ◌≡◌, ◌⊎◌, ◌+◌, ◌-◌, ◌*◌, ◌≤◌, List, [], ◌∷◌, ◌++◌, Bool, true, false, cond, ◌&&◌, ◌||◌, nat_le, nat_lt, nat_tests, arith, refl, sym, ap, ◌∙◌, subst, get_or, Option, Some, None, inl, inr, map, length, length-map, mul-le, All, All-cons, All-head, All-nil, All-tail, All-weaker, eq-eqb, Contains, Plan, IsPlan, link_plan_at, LinkPlan, PortPlan, room_of, IsAllowed, pieces_of, port_pieces, ◌/◌, filter, filter-append, not, unwrap_or, IfSome, is_some, sum_by, get_or_default, All-filter, All-map, filter_passes, sum_by-filter_both, sum_by-cons, sum_by-le, port_plan_at, PortId, is_on, Sender, senders_on, have_periods, has_period, all_of_map, Arrival, AreApart, AreDue, KeepPeriod, times_in, is_from, is_before}
+use Rattle.run_laws.proofs.Names.{ℕ, ◌≡◌, ◌⊎◌, ◌+◌, ◌-◌, ◌*◌, ◌≤◌, List, [], ◌∷◌, ◌++◌, Bool, true, false, cond, ◌&&◌, ◌||◌, nat_le, nat_lt, nat_tests, arith, refl, sym, ap, ◌∙◌, subst, get_or, Option, Some, None, inl, inr, map, length, length-map, mul-le, All, All-cons, All-head, All-nil, All-tail, All-weaker, eq-eqb, Contains, Plan, IsPlan, link_plan_at, LinkPlan, PortPlan, room_of, IsAllowed, pieces_of, port_pieces, ◌/◌, filter, filter-append, not, unwrap_or, IfSome, is_some, sum_by, get_or_default, All-filter, All-map, filter_passes, sum_by-filter_both, sum_by-cons, sum_by-le, port_plan_at, PortId, is_on, Sender, senders_on, have_periods, has_period, Arrival, AreApart, AreDue, KeepPeriod, times_in, is_from, is_before}
 use Rattle.run_laws.proofs.Pieces.{own_pieces}
 
 -- the fragments of a message on a link whose frames have this room

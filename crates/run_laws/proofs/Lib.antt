@@ -17,7 +17,9 @@ pub mod KeptPeriods
 pub mod GroupWait
 pub mod Mates
 pub mod Backlog
+pub mod Owed
 pub mod TrafficRun
+pub mod LoneRun
 pub mod TrafficRows
 pub mod GroupRows
 pub mod FullRun

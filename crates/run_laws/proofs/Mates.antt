@@ -1,5 +1,5 @@
 -- The mates of a sub-VL: their flows, their periods and the round of their group.
-use Rattle.run_laws.proofs.Names.{ℕ, zero, suc, ◌≡◌, ◌+◌, ◌*◌, ◌/◌, ◌%◌, ◌^◌, ◌<◌, ◌≤◌, List, [], ◌∷◌, Bool, true, false, cond, nat_eq, not, ◌&&◌, ◌||◌, map, arith, refl, ap, sym, ◌∙◌, inl, inr, cases_eq, cases_Bool, false≢true, nat_tests, sum_by, sum_by-cons, users_among, bag_micros, LinkPlan, PortPlan, Plan, IsPlan, link_plan_at, length, Sender, filter, has_sub, has_port, have_periods, has_period, is_on, is_with, mates_have_periods, senders_on, AreMates, is_outside, are_mates, subst, round_of}
+use Rattle.run_laws.proofs.Names.{ℕ, zero, suc, ◌≡◌, ◌+◌, ◌*◌, ◌<◌, ◌≤◌, List, [], ◌∷◌, Bool, true, false, cond, nat_eq, not, ◌&&◌, ◌||◌, map, arith, refl, ap, sym, inl, inr, cases_eq, nat_tests, sum_by, sum_by-cons, users_among, bag_micros, LinkPlan, Plan, IsPlan, link_plan_at, length, Sender, filter, has_sub, has_port, have_periods, is_on, is_with, mates_have_periods, senders_on, AreMates, is_outside, are_mates, subst, round_of}
 use Rattle.run_laws.proofs.Groups.{in_group, outside, sum_in, sum_in_both, sum_in_same}
 
 -- a port is on one sub-VL
@@ -46,6 +46,7 @@ module _ {F : Type 0} (flow : Sender → F) (count : F → ℕ) (link : LinkPlan
 
   -- what the flows of the mates hand over, by sub-VL
   pub by_mates : (subs mates : ℕ) (senders : List Sender) → sum_in subs (has_sub mates) (λ t. of_sub t senders) ≤ of_mates mates senders
+  unfolding is_with
   by_mates subs mates [] = let none = sum_in_zero subs (has_sub mates) in omega arith
   by_mates subs mates (sender ∷ senders) =
       let own : ℕ = count (flow sender) in
@@ -60,6 +61,7 @@ module _ {F : Type 0} (flow : Sender → F) (count : F → ℕ) (link : LinkPlan
 -- the ports of each mate have periods
 pub mate_has_periods : (link : LinkPlan) (mates t : ℕ) (senders : List Sender) → has_sub mates t ≡ true
     → mates_have_periods link mates senders ≡ true → have_periods link t senders ≡ true
+unfolding is_with
 mate_has_periods link mates t [] is all = refl
 mate_has_periods link mates t (sender ∷ senders) is all = elim (cases_eq sender.port.sub t) [
   | inl same ↦

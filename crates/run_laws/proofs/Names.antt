@@ -54,7 +54,8 @@ pub use Rattle.std.proofs.lemmas.List.Filters.{sum_by-filter_both}
 pub use Rattle.std.proofs.lemmas.List.Sums.{sum_by-cons, sum_by-le, sum_by-take-drop, sum_by_push, sum_by-append}
 pub use Rattle.afdx_plan.specs.declared.port_plan.PortId.{PortId}
 pub use Rattle.plan_analysis.specs.declared.traffic.Sender.{Sender}
-pub use Rattle.plan_analysis.specs.Traffic.{senders_on, have_periods, has_period, IsGoodPeriod, IsWaitInGroup, IsGroupWait, IsBusyTime, arrived, arrived_before, flows_of, flows_with, AreSendersOf, AreMates, IsBacklog, IsNeed, IsKnownBacklog, messages, greatest_message, places_at, flow_of, round_of, has_sub, is_with, mates_have_periods, is_outside, are_mates}
+pub use Rattle.plan_analysis.specs.Traffic.{senders_on, have_periods, has_period, IsGoodPeriod, IsWaitInGroup, IsGroupWait, IsBusyTime, arrived, arrived_before, flows_of, flows_with, AreSendersOf, AreMates, IsBacklog, IsNeed, IsKnownBacklog, messages, greatest_message, places_at, flow_of, round_of, has_sub, mates_have_periods, is_outside, are_mates}
+unfoldable pub use Rattle.plan_analysis.specs.Traffic.{is_with}
 pub use Rattle.plan_analysis.proofs.Busy.{all_of_map}
 pub use Rattle.plan_analysis.proofs.Waits.{waits_in_group}
 pub use Rattle.run_laws.specs.TrafficInRun.{Arrival, IsLoneWait, AreApart, AreDue, KeepPeriod, times_in, is_from, is_before, KeepPeriods, TrafficInRun, AreFindingAll, accepted_by, messages_in}
@@ -79,7 +80,7 @@ pub use Rattle.std.proofs.lemmas.List.Folds.{Any-from_list_any, list_any_at}
 pub use Rattle.afdx_laws.specs.WorkedDelivery.{back_frame}
 pub use Rattle.run_laws.specs.NeverFull.{AsksAfter, IsNeedFor, NeverFull, NeverFullInGroup, asked_at, queued_of}
 pub use Rattle.run_laws.specs.FullRow.{AskCase, FullCase, FillsItsQueue, NeedsPlaces, load_at, accepted_so, asking_port, full_port, each, other_each}
-pub use Rattle.run_laws.specs.GroupRow.{NeedsItsMates, PairReleased, TakesItsGroupWait, crossed_line, pair_accepted, pair_arrivals, pair_line, pair_link, pair_plan, pair_senders}
+pub use Rattle.run_laws.specs.GroupRow.{NeedsItsMates, PairReleased, TakesItsGroupWait, apart_arrivals, crossed_line, pair_accepted, pair_arrivals, pair_line, pair_link, pair_plan, pair_senders}
 pub use Rattle.subvl_queue.specs.Views.{QueueName}
 pub use Rattle.afdx_tx.specs.Ports.{Refuses}
 pub use Rattle.afdx_tx.specs.declared.fault.Refusal.TheVariants.{Full}

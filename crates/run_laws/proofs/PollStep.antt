@@ -1,5 +1,5 @@
 -- What a turn of a link, and a poll of all links, does to the stream of one of them.
-use Rattle.run_laws.proofs.Names.{ℕ, zero, suc, ◌≡◌, ◌≢◌, ◌+◌, ◌<◌, List, [], ◌∷◌, ◌++◌, Bool, true, false, ◌&&◌, ◌||◌, nat_eq, arith, refl, sym, Option, Some, None, inl, inr, ⊎_elim, length, nat_tests, both_ways, cases_eq, and_from, eq-eqb, LinkPlan, sub_in, Entry, entry, Lines, any_up, log, BothEndure, turn_of, IsServed, Served, Nothing, Released, Lost, TurnView, Turn, AreTurns, pace_of, held_at, link_at, taken_by, held_view, none_begun, begun_by, latest, link_stream, append-nil, Plan, IsPlan, link_plan_at, bag_micros, turns_endure, turns_seen, Accepted, AreQueued, Tx, IsTurnAt, DrainsAt, IsDrained, accepted_view, stream_at, IsReadyFor, EmitterPolls, IsOfUser, has_port, turn_below, stream_more, other_turn, turn_at, turn_endures, not_begun}
+use Rattle.run_laws.proofs.Names.{ℕ, zero, suc, ◌≡◌, ◌≢◌, ◌+◌, ◌<◌, List, [], ◌∷◌, ◌++◌, Bool, true, false, ◌||◌, nat_eq, arith, sym, Option, Some, None, inl, inr, ⊎_elim, length, both_ways, cases_eq, LinkPlan, sub_in, Entry, entry, Lines, any_up, log, BothEndure, turn_of, IsServed, Served, Nothing, Released, Lost, TurnView, Turn, AreTurns, pace_of, held_at, link_at, taken_by, held_view, none_begun, begun_by, latest, link_stream, append-nil, Plan, IsPlan, link_plan_at, bag_micros, turns_endure, turns_seen, Accepted, AreQueued, Tx, IsTurnAt, DrainsAt, IsDrained, accepted_view, stream_at, IsReadyFor, EmitterPolls, IsOfUser, has_port, turn_below, stream_more, other_turn, turn_at, turn_endures, not_begun}
 use Rattle.run_laws.proofs.Used.{by_plan, first_port, owes_some, taken_some}
 
 -- What a poll adds to a stream: the frame that it released, of this sub-VL, if it released one.

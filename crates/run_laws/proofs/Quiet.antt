@@ -1,5 +1,5 @@
 -- What the polls of a group of sub-VLs release, from the last time on at which the group had sent all.
-use Rattle.run_laws.proofs.Names.{ℕ, suc, zero, ◌≡◌, ◌+◌, ◌-◌, ◌*◌, ◌<◌, ◌≤◌, List, [], ◌∷◌, Bool, true, false, cond, arith, Option, Some, None, inl, inr, map, cases_lt, cases_eq, ◌/◌, mul-div-le, IsLater, users_among, Poll, is_of, released_by, AreServed, ServeUsers, AreTimely, last_after, Stamp, counted, nat_tests}
+use Rattle.run_laws.proofs.Names.{ℕ, suc, zero, ◌≡◌, ◌+◌, ◌-◌, ◌*◌, ◌<◌, ◌≤◌, List, [], ◌∷◌, Bool, true, cond, arith, Option, Some, None, inl, inr, map, cases_lt, cases_eq, ◌/◌, mul-div-le, IsLater, users_among, Poll, is_of, released_by, AreServed, ServeUsers, AreTimely, last_after, Stamp, counted, nat_tests}
 use Rattle.run_laws.proofs.Groups.{HasLess, outside, sum_in, sum_in_both, sum_in_same}
 use Rattle.run_laws.proofs.GroupPolls.{HasInGroup}
 use Rattle.run_laws.proofs.Ran.{HasOwed, Rise, at_of, past_none, timely_rise}

@@ -1,5 +1,5 @@
 -- The worked runs of the law of a message whose sub-VL's ports keep periods, by computation.
-use Rattle.run_laws.proofs.Names.{All-cons, All-nil, All, AreDue, KeepPeriod, IsGoodPeriod, IfSome, Some, None, Sender, Arrival, filter, is_from, times_in, ◌<◌, ◌+◌, Drains, short_frame, entry, ◌≤◌, AreFindingAll, accepted_by, accepted_at, sender_of, short_port, three_senders, third_arrival, MeetsWithJitter, SecondReleased, late_senders, both_line, ℕ, zero, suc, ◌≡◌, ◌≢◌, ◌∙◌, sym, List, [], ◌∷◌, ◌++◌, length, refl, ap, arith, inl, inr, A, blanked, cutting, fragments_at, addresses, header_front, internet_header, link_header, udp_header, datagram, unnumbered, log, IsPrefixOf, PortPlan, Passes, Released, below_one, cons_parts, held_at, stream_at, FindsIt, fragments_of, seen_of, port_plan_at, AreSendersOf, AreMates, IsLoneWait, IsWaitInGroup, link_plan_at, ◌*◌, ◌/◌, ReceiverView, after_take, GivesFrame, IsSameSub, gave_same, moves_of, same_sub_here, same_sub_on, AreReleasedBy, AreApart, KeepPeriods, NeedsTraffic, TakesItsWait, byte_arrivals, byte_sender, byte_senders, other_sent, other_senders, byte_line, byte_plan, bytes_accepted, no_line, other_frame, short_sent, tight_link, fresh, three_plan, line_after}
+use Rattle.run_laws.proofs.Names.{is_with, All-cons, All-nil, AreDue, KeepPeriod, IsGoodPeriod, IfSome, Some, None, Sender, Arrival, filter, is_from, times_in, ◌<◌, ◌+◌, Drains, short_frame, entry, ◌≤◌, AreFindingAll, accepted_by, accepted_at, sender_of, short_port, three_senders, third_arrival, MeetsWithJitter, SecondReleased, late_senders, both_line, ℕ, zero, suc, ◌≡◌, ◌≢◌, ◌∙◌, sym, List, [], ◌∷◌, ◌++◌, length, refl, ap, arith, inl, inr, A, blanked, cutting, fragments_at, addresses, header_front, internet_header, link_header, udp_header, datagram, unnumbered, log, IsPrefixOf, PortPlan, Passes, Released, below_one, cons_parts, held_at, stream_at, FindsIt, fragments_of, seen_of, port_plan_at, AreSendersOf, AreMates, IsLoneWait, IsWaitInGroup, link_plan_at, ◌*◌, ◌/◌, ReceiverView, after_take, GivesFrame, IsSameSub, gave_same, moves_of, same_sub_here, same_sub_on, AreReleasedBy, AreApart, KeepPeriods, NeedsTraffic, TakesItsWait, byte_arrivals, byte_sender, byte_senders, other_sent, other_senders, byte_line, byte_plan, bytes_accepted, no_line, other_frame, short_sent, tight_link, fresh, three_plan, line_after}
 use Rattle.afdx_plan.specs.Demo.{demo_port}
 use Rattle.afdx_frame.specs.Checksum.{checksum}
 use Rattle.run_laws.proofs.EmitterRuns.{finding, polls_by, waits_its_turn}
@@ -42,7 +42,7 @@ unfolding log checksum addresses header_front internet_header link_header udp_he
 seen_is = refl
 
 pub takes_its_wait : TakesItsWait
-unfolding cutting fragments_at
+unfolding is_with cutting fragments_at
 takes_its_wait = record {
   senders = record { ports = refl; periods = grind arith };
   wait = (refl, (are_none three_plan (link_plan_at three_plan.links 0) 1 three_senders, three_wait));
@@ -67,9 +67,11 @@ pub byte_none : (senders : List Sender) → AreMates byte_plan (link_plan_at byt
 byte_none senders = are_none byte_plan (link_plan_at byte_plan.links 0) 0 senders
 
 wait_is : IsLoneWait 0 byte_plan byte_senders 0 0 1000
+unfolding is_with
 wait_is = (refl, (byte_none byte_senders, byte_wait))
 
 longer : IsLoneWait 0 byte_plan byte_senders 0 0 999 → ⊥
+unfolding is_with
 longer of =
     let least = of.1.1.most 0 (omega arith) in
     let enough = least.1 in
@@ -86,6 +88,7 @@ foreign_is of =
     absurd (omega arith)
 
 foreign_wait : IsLoneWait 0 byte_plan other_senders 0 0 1000
+unfolding is_with
 foreign_wait = (refl, (byte_none other_senders, byte_wait))
 
 -- one port keeps its period
@@ -260,7 +263,7 @@ late_sooner = not_released byte_plan 0 0 1999 (short_sent 0 ∷ short_sent 0 ∷
     (entry 2000 (short_frame 0 1 1 A) ∷ []) (stream_at byte_plan 0 both_line) refl (grind arith) (omega arith)
 
 pub meets_with_jitter : MeetsWithJitter
-unfolding log cutting fragments_at
+unfolding is_with log cutting fragments_at
 meets_with_jitter = record {
   senders = late_are 1999 (omega arith);
   wait = (refl, (byte_none (late_senders 1999), late_wait));
@@ -279,7 +282,7 @@ meets_with_jitter = record {
 }
 
 pub needs_traffic : NeedsTraffic
-unfolding log fragments_at cutting
+unfolding is_with log fragments_at cutting
 needs_traffic =
     let rows = needs_its_premises in
     record {

@@ -39,8 +39,8 @@ pub record IsGroupPoll (plan : Plan) (accepted : Accepted) (k : ℕ) (group mate
   pub sooner : (s : ℕ) → s < (link_plan_at plan.links k).sub_vls → mates s ≡ true
       → length (seen_of s (stream_at plan k after)) ≤ count s (now + 1)
 
--- The messages that a sub-VL accepted: those before the start, all of which were sent, those in the run, by which its
--- ports keep their periods with their jitter, and later ones.
+-- The messages that a sub-VL accepted: `before` the start, and all of these were sent; in the run, where its ports keep
+-- their periods with their jitter; and `later`.
 pub record HasTraffic (plan : Plan) (senders : List Sender) (accepted : Accepted) (k s start : ℕ) (before : List Sent)
     (arrivals : List Arrival) (later : List Sent) (stream : List Entry) : Type 0 where
   pub are : accepted k s ≡ (before ++ messages_in arrivals) ++ later

@@ -1,10 +1,9 @@
--- Worked runs of the law of a message in a group of sub-VLs: a drain of a link with two sub-VLs, whose ports send messages
--- of one byte. With no lateness the round of the group of both is 1,000 microseconds.
-use Rattle.std.specs.Prelude.{ℕ, zero, suc, ◌≡◌, ◌+◌, List, [], ◌∷◌, ◌++◌, map, replicate, take, true, Some}
-use Rattle.afdx_plan.specs.Config.{Plan, IsPlan, link_plan_at}
+-- Worked runs of the law of a message in a group of sub-VLs: a drain of a link with two sub-VLs, whose ports send
+-- messages of one byte. With no lateness the round of the group of both is 1,000 microseconds.
+use Rattle.std.specs.Prelude.{ℕ, zero, suc, ◌≡◌, List, [], ◌∷◌, ◌++◌, map, replicate, true, Some}
+use Rattle.afdx_plan.specs.Config.{Plan, IsPlan}
 use Rattle.afdx_plan.specs.Demo.{demo_plan}
 use Rattle.afdx_plan.specs.declared.link_plan.LinkPlan.{LinkPlan}
-use Rattle.afdx_frame.specs.Fragments.{Sent}
 use Rattle.redundant_mux.specs.Lines.{Lines}
 use Rattle.afdx_legal.specs.Legal.{Accepted}
 use Rattle.afdx_legal.specs.Streams.{IsPrefixOf}
@@ -34,11 +33,16 @@ abbrev pub pair_arrivals : ℕ → ℕ → List Arrival
 pair_arrivals many zero = replicate many (accepted_at 0 (short_sent 0))
 pair_arrivals many (suc sub) = accepted_at 0 (short_sent 1) ∷ accepted_at 1 (short_sent 1) ∷ []
 
+-- or sub-VL 0 accepts two, a period apart
+abbrev pub apart_arrivals : ℕ → List Arrival
+apart_arrivals zero = accepted_at 0 (short_sent 0) ∷ accepted_at 4000 (short_sent 0) ∷ []
+apart_arrivals (suc sub) = accepted_at 0 (short_sent 1) ∷ accepted_at 1 (short_sent 1) ∷ []
+
 abbrev pub pair_accepted : ℕ → Accepted
 pair_accepted many k zero = replicate many (short_sent 0)
 pair_accepted many k (suc sub) = short_sent 1 ∷ short_sent 1 ∷ []
 
--- the message of sub-VL 0, and those of sub-VL 1
+-- one message of sub-VL 0, and two of sub-VL 1
 abbrev pub pair_line : Lines
 pair_line = lines_by ((1000, short_frame 0 0 0) ∷ (2000, short_frame 1 0 1) ∷ (3000, short_frame 1 1 2) ∷ [])
 
@@ -66,9 +70,9 @@ pub record TakesItsGroupWait : Type 0 where
   pub released : PairReleased pair_line 3000
   pub sooner : PairReleased pair_line 2999 → ⊥
 
--- Sub-VL 0 accepts two messages at once, and so does not keep its period. All else is as above, but the message of
--- sub-VL 1 is not released within its wait.
+-- The message of sub-VL 1 is not released within its wait in these runs, where a premise fails of sub-VL 0.
 pub record NeedsItsMates : Type 0 where
+  -- two messages are accepted at once
   pub are : pair_accepted 2 0 0 ≡ ([] ++ map (λ (a : Arrival). a.sent) (pair_arrivals 2 0)) ++ []
   pub unkept : KeepPeriods pair_senders 0 (pair_arrivals 2 0) → ⊥
   pub keeps : KeepPeriods pair_senders 0 (pair_arrivals 2 1)
@@ -76,3 +80,7 @@ pub record NeedsItsMates : Type 0 where
       (λ t. accepted_by pair_plan 0 [] (pair_arrivals 2 t))) (1000 ∷ 2000 ∷ 3000 ∷ []) no_line crossed_line
   pub begins : IsPrefixOf (seen_of 1 (stream_at pair_plan 0 crossed_line)) (fragments_of pair_plan 0 (pair_accepted 2 0 1))
   pub missed : PairReleased crossed_line 3000 → ⊥
+  -- a message that keeps the period is sent before its acceptance
+  pub apart : KeepPeriods pair_senders 0 (apart_arrivals 0)
+  pub early : ArePolls (IsGroupPoll pair_plan (pair_accepted 2) 0 (is_in 1 1) (has_sub 1)
+      (λ t. accepted_by pair_plan 0 [] (apart_arrivals t))) (1000 ∷ 2000 ∷ 3000 ∷ []) no_line crossed_line → ⊥

@@ -70,7 +70,8 @@ NeverFull = (plan : Plan) (senders : List Sender) (accepted : Accepted) (moments
     → AreTimely (bag_micros (link_plan_at plan.links k).bag) late (now - 1) start moments
     → IsNotRefused plan k s (before ++ messages_in arrivals) asked after
 
--- The same with the wait by traffic in a group, if the other sub-VLs of the group keep their periods too.
+-- A port isn't refused as full in a run of a group of sub-VLs whose ports all keep their periods, if its queue has the
+-- places that the traffic needs by the wait in that group.
 abbrev pub NeverFullInGroup : Type 0
 NeverFullInGroup = (plan : Plan) (senders : List Sender) (accepted : Accepted) (moments : List ℕ) (lines after : Lines)
     (k s mates late start now wait need : ℕ) (before : ℕ → List Sent) (arrivals : ℕ → List Arrival)

@@ -72,9 +72,9 @@ pub fn message_in_run()
 /// The run starts at a time at which each sub-VL of the group has sent all that it accepted, for example when the end
 /// system opens. The wait starts when the message is accepted, at any time of the run. Premises (`IsGroupRun`):
 ///
-/// - The messages of each sub-VL of the group are accepted in this order, none before the start. Each one is accepted at
-///   most the jitter of its port after its planned time, and the planned times of a port are at least its period apart
-///   (`KeepPeriods`).
+/// - The messages of each sub-VL of the group are accepted in this order, none before the start. Each one is accepted
+///   at most the jitter of its port after its planned time, and the planned times of a port are at least its period
+///   apart (`KeepPeriods`).
 /// - A poll of the emitter that polls the queue of a sub-VL of the group finds a message there while one that was
 ///   accepted before the time of the poll isn't wholly released (`FindsGroup`). A drain needs no such premise.
 /// - A poll sends no message of another sub-VL of the group that is accepted after the time of the poll (`sooner`).
@@ -96,7 +96,8 @@ pub fn traffic_in_run()
     // the second of two messages beside one of another sub-VL, which takes exactly its wait in the group of both
     ensures shared { TakesItsGroupWait }
 
-    // the same beside two messages at once, where the other sub-VL doesn't keep its period
+    // a message that takes longer, since a port of the other sub-VL doesn't keep its period, or since a message of that
+    // sub-VL is sent before its acceptance
     ensures mates { NeedsItsMates }
 
     // senders that aren't the plan's; a shorter wait; a message that isn't accepted; a start before the last release; a
