@@ -211,7 +211,8 @@ line_joined measure arrived joining line = record (line_counted measure arrived 
 -- the line with a frame, from the settled line
 unfoldable pub line_with : Measure → Option PortPlan → Arrived → Line → Line
 line_with measure port arrived line = line_joined measure arrived
-    (joining_after measure.arinc (fragment_on measure arrived line) arrived.fields port (joining_on measure arrived line)) line
+    (joining_after measure.arinc (fragment_on measure arrived line) arrived.fields port
+    (joining_on measure arrived line)) line
 
 -- the line on which a frame is judged: after its number, and after its turn
 abbrev pub numbered : Measure → Arrived → Line → Line

@@ -45,8 +45,8 @@ load_at before earlier others after =
     queued_of byte_plan 0 (accepted_so before earlier) (length (seen_of 0 (stream_at byte_plan 0 after)))
     + length others
 
--- The premises of the law for a request at `now`. The wait of the sub-VL is 1,000. It accepted `many` messages, `before`
--- of them before the start, and others at the times `earlier`; requests for `others` are under way. The premise of
+-- The premises of the law for a request at `now`. The wait of the sub-VL is 1,000. It accepted `many` messages:
+-- `before` before the start, and others at the times `earlier`; requests for `others` are under way. The premise of
 -- number `failing` fails, and each other one holds.
 pub record AskCase (failing : ℕ) (senders : List Sender) (need many before start : ℕ) (earlier : List ℕ)
     (others : List Sent) (now : ℕ) (moments : List ℕ) (lines after : Lines) : Type 0 where

@@ -78,7 +78,8 @@ pub record NeedsItsMates : Type 0 where
   pub keeps : KeepPeriods pair_senders 0 (pair_arrivals 2 1)
   pub polls : ArePolls (IsGroupPoll pair_plan (pair_accepted 2) 0 (is_in 1 1) (has_sub 1)
       (λ t. accepted_by pair_plan 0 [] (pair_arrivals 2 t))) (1000 ∷ 2000 ∷ 3000 ∷ []) no_line crossed_line
-  pub begins : IsPrefixOf (seen_of 1 (stream_at pair_plan 0 crossed_line)) (fragments_of pair_plan 0 (pair_accepted 2 0 1))
+  pub begins : IsPrefixOf (seen_of 1 (stream_at pair_plan 0 crossed_line))
+      (fragments_of pair_plan 0 (pair_accepted 2 0 1))
   pub missed : PairReleased crossed_line 3000 → ⊥
   -- a message that keeps the period is sent before its acceptance
   pub apart : KeepPeriods pair_senders 0 (apart_arrivals 0)
