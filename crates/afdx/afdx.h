@@ -25,7 +25,7 @@
    - Memory comes from rattle_alloc, rattle_realloc and rattle_dealloc. libafdx.a and libafdx.so have these three over malloc,
      realloc and free, which come from one allocator; a program that links libafdx_core.a defines them itself, as
      docs/guide/c.md says.
-   - No call is made from a signal handler, or in the forked child of a process with threads.
+   - No call is made from a signal handler or an interrupt, or in the forked child of a process with threads.
    - The stack has room: 4 KB for the library, and what rattle_alloc takes; AFDX_TEXT_STACK bytes for a call that reads
      a text.
    A call that takes a pointer to const for a handle changes neither the handle nor the end system or port in it.
@@ -142,7 +142,13 @@ enum {
 };
 
 /** Why afdx_send refuses a message. */
-enum { AFDX_EMPTY = 1, AFDX_TOO_LONG = 2, AFDX_CLOSED = 3, AFDX_EXHAUSTED = 4, AFDX_FULL = 5 };
+enum {
+    AFDX_EMPTY = 1,     /**< it has no bytes */
+    AFDX_TOO_LONG = 2,  /**< it has more bytes than the plan allows the port (`max`) */
+    AFDX_CLOSED = 3,    /**< the sub-VL was closed, for good */
+    AFDX_EXHAUSTED = 4, /**< the port has used its 2^40 slot requests */
+    AFDX_FULL = 5       /**< the queue of the sub-VL is full */
+};
 
 /** Why a line of a script is refused, in the order in which they are returned: LONG, WORD, NUMBER, HEX, EXTRA. */
 enum {
@@ -245,10 +251,10 @@ uint8_t afdx_links(const afdx_end_system *it, uint16_t *ids, size_t room, size_t
    @param port the port
    @param message the message
    @param length its length in bytes
-   @return AFDX_OK. Refused: AFDX_NOT_HELD, AFDX_WRONG_HANDLE; AFDX_EMPTY, AFDX_TOO_LONG, by the length alone;
-   AFDX_CLOSED, AFDX_EXHAUSTED (the port has used its 2^40 slot requests, one for each send that finds its queue
-   open), AFDX_FULL: try again after a poll. A refused message isn't queued. AFDX_FULL uses a slot request, and so
-   does AFDX_CLOSED if the queue was closed during the call. */
+   @return AFDX_OK. Refused: AFDX_NOT_HELD, AFDX_WRONG_HANDLE; AFDX_EMPTY, AFDX_TOO_LONG, by the length alone, which
+   change nothing; AFDX_CLOSED, AFDX_EXHAUSTED, AFDX_FULL: try again after a poll. A refused message isn't queued. A
+   send of an allowed length that finds its queue open uses a slot request, also if the answer is AFDX_FULL, or
+   AFDX_CLOSED because the queue was closed during the call. A close during the call may come too late for it. */
 uint8_t afdx_send(afdx_port *port, const uint8_t *message, size_t length);
 
 /** Writes the number of a port's accepted messages. Called by the thread that has the port.
@@ -324,7 +330,8 @@ uint8_t afdx_all_frames(const afdx_end_system *it, uint8_t network, uint8_t *buf
    @return AFDX_OK. Refused: AFDX_NOT_HELD, AFDX_WRONG_HANDLE, AFDX_NO_NETWORK, AFDX_NO_FRAME, with nothing written. */
 uint8_t afdx_release(const afdx_end_system *it, uint8_t network, size_t k, afdx_released *out);
 
-/** Makes a network fail: its next frame fails, and it gets none afterwards.
+/** Makes a network fail, for good: its next frame fails, and it gets none afterwards. Until a poll makes that frame the
+   network is up. A link that this network alone carries loses the frame, and afdx_is_done then never writes 1.
    @param it the end system
    @param network AFDX_A or AFDX_B
    @return AFDX_OK. Refused: AFDX_NOT_HELD, AFDX_WRONG_HANDLE, AFDX_NO_NETWORK. */

@@ -128,7 +128,8 @@ static int carry(struct network *network, uint64_t now, const uint8_t *frame, si
     return fputc('\n', network->lines) == EOF ? -1 : 0;
 }
 
-/* Transmits the frames that the last poll made for a network. A network that doesn't take one has failed. */
+/* Transmits the frames that the last poll made for a network. One that doesn't take a frame fails here for good; a driver
+   whose network may come back counts the loss instead, and goes on. */
 static void carry_all(afdx_end_system *end_system, struct network *network, uint64_t now) {
     uint8_t frame[AFDX_GREATEST_FRAME];
     size_t count = 0, length = 0;
