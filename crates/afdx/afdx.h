@@ -5,11 +5,13 @@
 
    An end system is opened from the text or the table of a plan. Each of its ports may be moved to a thread of its own,
    which sends. One thread polls with the present time and then copies out the frames of that poll, for network A and
-   for network B, from the destination MAC address to the sequence number, without the frame check sequence. Once all
-   ports were given back and gathered, the end system transmits what is left and reports when it is done.
+   for network B, from the destination MAC address to the sequence number, without the frame check sequence. Once each
+   port that was taken is given back, afdx_gather begins to drain: later polls transmit what is left, and afdx_is_done
+   says whether all of it was transmitted.
 
    Every call returns 0 or a number below. After any other number than 0 nothing has changed except as stated with
    the call. The numbers of a call are in the order in which it checks them, and the first that applies is returned.
+   A call that may return AFDX_MEMORY may return it in place of any other.
 
    The caller must keep these rules, which no call can check:
    - A handle is all zeroes before it is first passed to afdx_open or afdx_port_of, and only calls change it. Where

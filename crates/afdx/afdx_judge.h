@@ -87,9 +87,9 @@ typedef struct {
 } afdx_judged;
 
 /** Judges a capture of both networks, by interfaces named A and B, or its first two. Writes as many findings as have room,
-   in the order of their packets' times, and beside them their number and what was read. A capture that is cut off or
-   malformed is judged up to there. Allocates 80 to 160 bytes for each packet and each finding, and memory for the plan
-   and for frames that wait for their twins, and frees it all.
+   in the order in which they are made (a Missing when its twin can't come any more), and beside them their number and what
+   was read. A capture that is cut off or malformed is judged up to there. Allocates 80 to 160 bytes for each packet and
+   each finding, and memory for the plan and for frames that wait for their twins, and frees it all.
    @param plan the text of the plan
    @param plan_length its length in bytes
    @param options what is allowed

@@ -5,7 +5,7 @@
        costs steps      runs each case once, in a function of its name, for valgrind --tool=callgrind
 
    tests/c/costs.py builds and runs it. */
-#include "afdx.h"
+#include "afdx_judge.h"
 
 #include <stdbool.h>
 #include <stdio.h>
@@ -37,8 +37,10 @@ struct tried rattle_realloc(void *block, size_t kept, size_t size, size_t alignm
 
 void rattle_dealloc(void *block) { (void)block; }
 
-/* The table of a plan of `links` links with one sub-VL each, and `each` ports to a link, as docs/guide/table.md has it. */
+/* The table of a plan of `links` links, and `each` ports to a link, as docs/guide/table.md has it. A link has `sub_vls` sub-VLs,
+   whose ports follow one another, and `udp_sums` is 1 if each port has a UDP checksum. */
 static uint8_t table[FRONT + 64 * LINK + 256 * PORT + SUM];
+static unsigned sub_vls = 1, udp_sums;
 
 static size_t put(size_t at, unsigned number) {
     table[at] = (uint8_t)(number >> 8);
@@ -53,11 +55,11 @@ static size_t table_of(unsigned links, unsigned each) {
     unsigned front[] = {1, 7, links, links * each};
     for (size_t k = 0; k < 4; k++) at = put(at, front[k]);
     for (unsigned k = 0; k < links; k++) {
-        unsigned link[] = {k, 1, 1518, 1, 4, 0};
+        unsigned link[] = {k, 1, 1518, sub_vls, 4, 0};
         for (size_t i = 0; i < 6; i++) at = put(at, link[i]);
     }
     for (unsigned k = 0; k < links * each; k++) {
-        unsigned port[] = {k, k / each, 0, 1, 1, 1000 + k, 2000, 8192, 0, 0, 0};
+        unsigned port[] = {k, k / each, k % sub_vls, 1, 1, 1000 + k, 2000, 8192, 0, 0, udp_sums};
         for (size_t i = 0; i < 11; i++) at = put(at, port[i]);
     }
     for (size_t k = 0; k < at; k++) {
@@ -76,6 +78,9 @@ static uint16_t ids[AFDX_MOST_PORTS];
 static uint64_t now, total;
 static afdx_counts counts;
 static afdx_released released;
+static afdx_line line;
+/* The longest message of a script, and a pcap file of one empty packet. */
+static uint8_t text[7 + 2 * 8192] = "send 0 ", capture[40] = {0xd4, 0xc3, 0xb2, 0xa1, 2, 0, 4, 0, [20] = 1};
 
 static void want(bool holds, const char *what) {
     if (holds) return;
@@ -83,14 +88,15 @@ static void want(bool holds, const char *what) {
     exit(1);
 }
 
-/* Opens an end system of so many links, with a port each, all taken, which send so many bytes, none if 0. */
+/* Opens an end system of so many links, with a port for each of their sub-VLs. One port of each link is taken, and sends so
+   many bytes, none if 0. */
 static void begin(unsigned links, size_t bytes) {
     memset(&it, 0, sizeof it);
     memset(ports, 0, sizeof ports);
     used = now = 0;
-    want((answer = afdx_open_table(&it, table, table_of(links, 1))) == AFDX_OK, "open");
+    want((answer = afdx_open_table(&it, table, table_of(links, sub_vls))) == AFDX_OK, "open");
     for (uint16_t k = 0; k < links; k++) {
-        want((answer = afdx_port_of(&it, k, &ports[k])) == AFDX_OK, "port");
+        want((answer = afdx_port_of(&it, (uint16_t)(k * sub_vls + sub_vls - 1), &ports[k])) == AFDX_OK, "port");
         if (bytes > 0) want((answer = afdx_send(&ports[k], message, bytes)) == AFDX_OK, "send");
     }
 }
@@ -105,6 +111,8 @@ static void returns_all(unsigned links) {
 static void tables_of_1(void) { memset(&it, 0, sizeof it), used = 0, table_length = table_of(1, 1); }
 static void tables_of_64(void) { memset(&it, 0, sizeof it), used = 0, table_length = table_of(64, 4); }
 static void one(void) { begin(1, 0); }
+static void one_summed(void) { udp_sums = 1, begin(1, 0), udp_sums = 0; }
+static void all_last(void) { sub_vls = 4, begin(64, 1), sub_vls = 1; }
 static void all(void) { begin(64, 0); }
 static void one_byte(void) { begin(1, 1); }
 static void one_long(void) { begin(1, 8192); }
@@ -121,16 +129,24 @@ static void full(void) {
 static void one_free(void) { begin(1, 0), returns_all(1); }
 static void given(void) { begin(64, 8192), returns_all(64); }
 static void gathered(void) { begin(64, 8192), returns_all(64), want(afdx_gather(&it) == AFDX_OK, "gather"); }
+static void drained(void) {
+    gathered();
+    for (uint64_t k = 0; k < 6; k++) polls(1000 * k);
+}
+static void nothing(void) { used = 0; }
 
 /* Each case: its name, the state before it, the call, and its answer. The last port of a plan, and its last link, are those
    that a search finds last. */
 #define CASES(CASE) \
     CASE(open_table_1, tables_of_1, afdx_open_table(&it, table, table_length), AFDX_OK) \
     CASE(open_table_64, tables_of_64, afdx_open_table(&it, table, table_length), AFDX_OK) \
+    CASE(memory_64, tables_of_64, afdx_memory(table, table_length, &length), AFDX_OK) \
     CASE(port_of, one_free, afdx_port_of(&it, 0, &ports[0]), AFDX_OK) \
     CASE(send_1, one, afdx_send(&ports[0], message, 1), AFDX_OK) \
     CASE(send_1472, one, afdx_send(&ports[0], message, 1472), AFDX_OK) \
     CASE(send_8192, one, afdx_send(&ports[0], message, 8192), AFDX_OK) \
+    CASE(send_1472_summed, one_summed, afdx_send(&ports[0], message, 1472), AFDX_OK) \
+    CASE(send_8192_summed, one_summed, afdx_send(&ports[0], message, 8192), AFDX_OK) \
     CASE(send_empty, one, afdx_send(&ports[0], message, 0), AFDX_EMPTY) \
     CASE(send_full, full, afdx_send(&ports[0], message, 1), AFDX_FULL) \
     CASE(accepted, one_byte, afdx_accepted(&ports[0], &total), AFDX_OK) \
@@ -140,6 +156,7 @@ static void gathered(void) { begin(64, 8192), returns_all(64), want(afdx_gather(
     CASE(poll_1_first, one_long, afdx_poll(&it, now, &standing), AFDX_OK) \
     CASE(poll_1_later, one_cut, afdx_poll(&it, now, &standing), AFDX_OK) \
     CASE(poll_64_whole, all_bytes, afdx_poll(&it, now, &standing), AFDX_OK) \
+    CASE(poll_64_last, all_last, afdx_poll(&it, now, &standing), AFDX_OK) \
     CASE(poll_64_first, all_long, afdx_poll(&it, now, &standing), AFDX_OK) \
     CASE(poll_64_later, all_cut, afdx_poll(&it, now, &standing), AFDX_OK) \
     CASE(poll_drain_64, gathered, afdx_poll(&it, now, &standing), AFDX_OK) \
@@ -156,9 +173,12 @@ static void gathered(void) { begin(64, 8192), returns_all(64), want(afdx_gather(
     CASE(give_back, all, afdx_give_back(&it, &ports[63]), AFDX_OK) \
     CASE(gather, given, afdx_gather(&it), AFDX_OK) \
     CASE(is_done, gathered, afdx_is_done(&it, &done), AFDX_OK) \
+    CASE(is_done_drained, drained, afdx_is_done(&it, &done), AFDX_OK) \
     CASE(free, all, afdx_free(&it), AFDX_OK) \
     CASE(free_drained, gathered, afdx_free(&it), AFDX_OK) \
-    CASE(free_port, one, afdx_free_port(&ports[0]), AFDX_OK)
+    CASE(free_port, one, afdx_free_port(&ports[0]), AFDX_OK) \
+    CASE(script_line, nothing, afdx_script_line(text, sizeof text, &line, message, sizeof message), AFDX_OK) \
+    CASE(capture_lost, nothing, afdx_capture_lost(capture, sizeof capture, &total), AFDX_OK)
 
 #define DEFINED(name, before, call, wanted) \
     static __attribute__((noinline)) void case_##name(void) { answer = call; }
@@ -193,6 +213,7 @@ static __attribute__((noinline)) size_t depth_of(void (*run)(void)) {
 int main(int words, char **word) {
     bool is_stack = words > 1 && strcmp(word[1], "stack") == 0;
     for (size_t k = 0; k < sizeof message; k++) message[k] = (uint8_t)k;
+    for (size_t k = 7; k < sizeof text; k++) text[k] = '0';
     for (size_t k = 0; k < sizeof cases / sizeof *cases; k++) {
         cases[k].before();
         size_t depth = 0;
