@@ -24,11 +24,5 @@ pub next_part : {P : Type 0} (from : List ℕ → P) (width many k at : ℕ) (ce
     ≡ from (drop (at + width * k) cells) ∷ parts_from from width (many - (k + 1)) (drop (at + width * (k + 1)) cells)
 next_part from width many k at cells below =
     let one : many - k ≡ suc (many - (k + 1)) = omega arith in
-    let past : drop width (drop (at + width * k) cells) ≡ drop (at + width * (k + 1)) cells = further (at + width * k) (at + width * (k + 1)) cells (steps width k at) in
-    rw (one, past) refl
-  where
-    steps : (width k at : ℕ) → at + width * k + width ≡ at + width * (k + 1)
-    steps width k at = grind arith
-
-    further : (m n : ℕ) (cells : List ℕ) → m + width ≡ n → drop width (drop m cells) ≡ drop n cells
-    further m n cells is = grind (arith, drop-drop)
+    let on : at + width * k + width ≡ at + width * (k + 1) = grind arith in
+    rw (one, drop-drop width (at + width * k) cells, on) refl

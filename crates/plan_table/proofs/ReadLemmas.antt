@@ -1,23 +1,19 @@
 -- A table is read as the plan that it is of.
-use Rattle.std.proofs.Common.{◌≡◌, ℕ, ◌+◌, ◌*◌, ◌/◌, ◌%◌, ◌-◌, ◌<◌, ◌≤◌, List, [], ◌∷◌, ◌++◌, length, drop, get_or, refl, sym, ◌∙◌, ap, arith, append_assoc, Some, None, Option, length-append, IfSome}
+use Rattle.std.proofs.Common.{◌≡◌, ℕ, codes, ◌+◌, ◌*◌, ◌/◌, ◌%◌, ◌<◌, List, [], ◌∷◌, ◌++◌, length, drop, get_or, refl, sym, ◌∙◌, ap, arith, append_assoc, Some, None, Option, IfSome}
 use Rattle.std.specs.List.{flat_map, AllByRecursion}
 use Rattle.std.specs.Int.{to_be_bytes, w32}
 use Rattle.std.proofs.lemmas.List.{drop-drop}
 use Rattle.std.proofs.lemmas.Bool.Decides.{nat_tests}
-use Rattle.std.proofs.lemmas.Slice.Eq.{bytes_eq-Decides}
-use Rattle.std.proofs.Math.Seq.{drop-append-add, drop-append_seam, take-append_seam}
+use Rattle.std.proofs.Math.Seq.{drop-append-add}
 use Rattle.plan_table.specs.Sum.{crc_32}
 use Rattle.std.proofs.lemmas.List.Elements.{recursion_from_All}
 use Rattle.afdx_plan.specs.Config.{Plan}
 use Rattle.afdx_plan.specs.Plan.{bag_ms, IsLink, IsPort, IsUnicast}
 use Rattle.afdx_plan.specs.declared.link_plan.Bag.{Bag}
-use Rattle.afdx_plan.specs.declared.link_plan.Bag.TheVariants.{Ms1, Ms2, Ms4, Ms8, Ms16, Ms32, Ms64, Ms128}
 use Rattle.afdx_plan.specs.declared.link_plan.LinkPlan.{LinkPlan}
 use Rattle.afdx_plan.specs.declared.port_plan.PortPlan.{PortPlan}
 use Rattle.plan_table.specs.Table.{address_high, address_low, half, IsInRange, IsTableOf, link_cells, plan_cells, port_cells, table_of}
-use Rattle.plan_table.specs.Reading.{address_from, bag_from, cells_of, link_from, links_from, parts_from, port_from, ports_from, IsFaultOf, table_fault_number}
-use Rattle.plan_table.specs.declared.fault.TableFault.{TableFault}
-use Rattle.plan_table.specs.declared.fault.TableFault.TheVariants.{Plan as OfPlan, NoTable, OtherLayout, WrongLength, WrongSum, WrongValue}
+use Rattle.plan_table.specs.Reading.{address_from, bag_from, cells_of, link_from, links_from, parts_from, port_from, ports_from, link_count, port_count}
 
 -- a number of 16 bits
 abbrev pub IsSmall : ℕ → Type 0
@@ -51,14 +47,7 @@ parts_past cells width [] rest is = let none : width * 0 ≡ 0 = omega arith in 
 parts_past cells width (p ∷ ps) rest is = grind (arith, is p, append_assoc, parts_past cells width ps rest is, drop-append-add)
 
 bag_back : (bag : Bag) → bag_from (bag_ms bag) ≡ bag
-bag_back Ms1 = refl
-bag_back Ms2 = refl
-bag_back Ms4 = refl
-bag_back Ms8 = refl
-bag_back Ms16 = refl
-bag_back Ms32 = refl
-bag_back Ms64 = refl
-bag_back Ms128 = refl
+bag_back bag = grind arith
 
 address_back : (address : Option (List ℕ)) → IfSome address IsUnicast → address_from (address_high address) (address_low address) ≡ address
 address_back None is = refl
@@ -68,11 +57,7 @@ address_back (Some (a ∷ b ∷ c ∷ d ∷ [])) is =
     let third : c < 256 = is.bytes 2 in
     let fourth : d < 256 = is.bytes 3 in
     grind (arith, nat_tests)
-address_back (Some []) is = absurd (omega (arith, is.four))
-address_back (Some (a ∷ [])) is = absurd (omega (arith, is.four))
-address_back (Some (a ∷ b ∷ [])) is = absurd (omega (arith, is.four))
-address_back (Some (a ∷ b ∷ c ∷ [])) is = absurd (omega (arith, is.four))
-address_back (Some (a ∷ b ∷ c ∷ d ∷ e ∷ rest)) is = absurd (omega (arith, is.four))
+address_back (Some address) is = absurd (omega (arith, is.four))
 
 small-address : (address : Option (List ℕ)) → IfSome address IsUnicast → (address_high address < 65536) × (address_low address < 65536)
 small-address None is = (omega arith, omega arith)
@@ -109,31 +94,21 @@ small-plan : (plan : Plan) → IsInRange plan → AllByRecursion IsSmall (plan_c
 unfolding plan_cells
 small-plan plan is =
     let links = small-parts link_cells IsLink plan.links small-link (recursion_from_All IsLink plan.links is.links) in
-    let ports = small-parts port_cells IsPort plan.ports small-port (recursion_from_All IsPort plan.ports is.ports) in (
-      omega arith,
-      (
-        omega arith,
-        (
-          omega arith,
-          (
-            omega arith,
-            (
-              omega arith,
-              (
-                is.end_system,
-                (
-                  is.few_links,
-                  (
-                    is.few_ports,
-                    small-append (flat_map link_cells plan.links) (flat_map port_cells plan.ports) links ports,
-                  ),
-                ),
-              ),
-            ),
-          ),
-        ),
-      ),
-    )
+    let ports = small-parts port_cells IsPort plan.ports small-port (recursion_from_All IsPort plan.ports is.ports) in
+    let parts = small-append (flat_map link_cells plan.links) (flat_map port_cells plan.ports) links ports in
+    (omega arith, (is.end_system, (is.few_links, (is.few_ports, parts))))
+
+-- the bytes of a plan before their check, and the numbers of the check
+abbrev pub front : Plan → List ℕ
+front plan = codes "AFDXPLAN" ++ flat_map half (plan_cells plan)
+
+abbrev pub tail : Plan → List ℕ
+tail plan = cells_of (to_be_bytes w32 (crc_32 (front plan)))
+
+pub cells_are : (bytes : List ℕ) (plan : Plan) → IsTableOf bytes plan
+    → cells_of bytes ≡ cells_of (codes "AFDXPLAN") ++ (plan_cells plan ++ tail plan)
+cells_are bytes plan is = ap cells_of is.table
+    ∙ ap (λ more. cells_of (codes "AFDXPLAN") ++ more) (cells_back (plan_cells plan) _ (small-plan plan is.ranges))
 
 -- the values that are read from the table of a plan
 pub record IsReadAs (bytes : List ℕ) (plan : Plan) : Type 0 where
@@ -144,71 +119,28 @@ pub record IsReadAs (bytes : List ℕ) (plan : Plan) : Type 0 where
 pub table_back : (bytes : List ℕ) (plan : Plan) → IsTableOf bytes plan → IsReadAs bytes plan
 unfolding plan_cells
 table_back bytes plan is =
-    let tail = cells_of (to_be_bytes w32 (crc_32 (flat_map half (plan_cells plan)))) in
-    let cells : cells_of bytes ≡ plan_cells plan ++ tail = ap cells_of is.table ∙ cells_back (plan_cells plan) _ (small-plan plan is.ranges) in
+    let cells = cells_are bytes plan is in
     let fl = flat_map link_cells plan.links in
     let fp = flat_map port_cells plan.ports in
-    let rest : (fl ++ fp) ++ tail ≡ fl ++ (fp ++ tail) = append_assoc fl fp tail in
-    let links = parts_back link_from link_cells 6 IsLink plan.links (fp ++ tail) link_back (λ p more. refl) (recursion_from_All IsLink plan.links is.ranges.links) in
-    let past = parts_past link_cells 6 plan.links (fp ++ tail) (λ p. refl) in
-    let dropped : drop (8 + 6 * length plan.links) (plan_cells plan ++ tail) ≡ fp ++ tail =
-    sym (drop-drop (6 * length plan.links) 8 (plan_cells plan ++ tail)) ∙ ap (drop (6 * length plan.links)) rest ∙ past in
-    let ports = parts_back port_from port_cells 11 IsPort plan.ports tail port_back port_drop (recursion_from_All IsPort plan.ports is.ranges.ports) in
+    let rest : (fl ++ fp) ++ tail plan ≡ fl ++ (fp ++ tail plan) = append_assoc fl fp (tail plan) in
+    let links = parts_back link_from link_cells 6 IsLink plan.links (fp ++ tail plan) link_back (λ p more. refl) (recursion_from_All IsLink plan.links is.ranges.links) in
+    let past = parts_past link_cells 6 plan.links (fp ++ tail plan) (λ p. refl) in
+    let dropped : drop (8 + 6 * length plan.links) (cells_of bytes) ≡ fp ++ tail plan =
+    sym (drop-drop (6 * length plan.links) 8 (cells_of bytes)) ∙ ap (λ c. drop (6 * length plan.links) (drop 8 c)) cells
+    ∙ ap (drop (6 * length plan.links)) rest ∙ past in
+    let ports = parts_back port_from port_cells 11 IsPort plan.ports (tail plan) port_back port_drop (recursion_from_All IsPort plan.ports is.ranges.ports) in
     record {
       end_system = rw cells refl;
       links = rw (cells, rest) links;
-      ports = rw (cells, dropped) ports;
+      ports = let many : port_count bytes ≡ length plan.ports = rw cells refl in
+          let past_links : link_count bytes ≡ length plan.links = rw cells refl in
+          rw (many, past_links, dropped) ports;
     }
 
 -- bytes that aren't the table of what is read from them are no table
-pub no_table : (bytes table : List ℕ) (plan other : Plan) → table ≡ table_of plan → plan.end_system ≡ get_or (cells_of bytes) 5 0
+pub no_table : (bytes table : List ℕ) (plan other : Plan) → IsTableOf table plan → plan.end_system ≡ get_or (cells_of bytes) 5 0
     → plan.links ≡ links_from bytes → plan.ports ≡ ports_from bytes → (table ≡ bytes → ⊥) → ¬ IsTableOf bytes other
 no_table bytes table plan other of end links ports differ is =
     let read = table_back bytes other is in
     let same : plan ≡ other = grind (arith, read.end_system, read.links, read.ports) in
-    differ (of ∙ ap table_of same ∙ sym is.table)
-
--- the length of the numbers of a plan
-length-cells : (plan : Plan) → length (plan_cells plan) ≡ 8 + 6 * length plan.links + 11 * length plan.ports
-unfolding plan_cells
-length-cells plan =
-    let links = length-parts link_cells 6 plan.links (λ p. refl) in
-    let ports = length-parts port_cells 11 plan.ports (λ p. refl) in
-    grind (arith, length-append, links, ports)
-  where
-    length-parts : {P : Type 0} (cells : P → List ℕ) (width : ℕ) (parts : List P) → ((p : P) → length (cells p) ≡ width)
-        → length (flat_map cells parts) ≡ width * length parts
-    length-parts cells width [] is = omega arith
-    length-parts cells width (p ∷ ps) is = grind (arith, length-append, is p, length-parts cells width ps is)
-
-length-halves : (cells : List ℕ) → length (flat_map half cells) ≡ 2 * length cells
-length-halves [] = refl
-length-halves (n ∷ cells) = let rest = length-halves cells in omega arith
-
--- the table of a plan has none of the faults of bytes
-pub no_fault : (bytes : List ℕ) (plan : Plan) → IsTableOf bytes plan → (fault : TableFault) → 16 ≤ table_fault_number fault → ¬ IsFaultOf bytes fault
-unfolding plan_cells
-no_fault bytes plan is = here
-  where
-    front : List ℕ
-    front = flat_map half (plan_cells plan)
-
-    sum : List ℕ
-    sum = to_be_bytes w32 (crc_32 front)
-
-    cells : cells_of bytes ≡ plan_cells plan ++ cells_of sum
-    cells = ap cells_of is.table ∙ cells_back (plan_cells plan) _ (small-plan plan is.ranges)
-
-    long : length bytes ≡ 20 + 12 * length plan.links + 22 * length plan.ports
-    long = ap length is.table ∙ length-append front sum ∙ grind (arith, length-halves (plan_cells plan), length-cells plan)
-
-    before : length bytes - 4 ≡ length front
-    before = let one = length-halves (plan_cells plan) in let two = length-cells plan in let three = long in omega arith
-
-    here : (fault : TableFault) → 16 ≤ table_fault_number fault → ¬ IsFaultOf bytes fault
-    here (OfPlan fault) own is_fault = absurd (grind (arith, nat_tests))
-    here NoTable own is_fault = is_fault (let one = long in omega arith, rw cells refl)
-    here OtherLayout own is_fault = is_fault.1 (rw cells refl)
-    here WrongLength own is_fault = is_fault.1 (rw cells long)
-    here WrongSum own is_fault = absurd (grind (arith, nat_tests, bytes_eq-Decides, before, is.table, take-append_seam, drop-append_seam))
-    here WrongValue own is_fault = is_fault.2 plan is
+    differ (of.table ∙ ap table_of same ∙ sym is.table)

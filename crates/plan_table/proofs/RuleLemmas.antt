@@ -1,5 +1,5 @@
 -- The rules of a plan, as tests of its links and ports.
-use Rattle.std.proofs.Common.{◌≡◌, ℕ, ◌+◌, ◌-◌, ◌<◌, Bool, true, false, List, [], ◌∷◌, length, drop, get_or, take, Some, None, refl, ap, ◌∙◌, ◌≤◌, arith, inl, inr, eq-eqb}
+use Rattle.std.proofs.Common.{◌≡◌, ℕ, ◌+◌, ◌-◌, ◌<◌, Bool, true, false, List, [], ◌∷◌, length, drop, get_or, take, Some, None, refl, ◌≤◌, arith, inl, inr, eq-eqb}
 use Rattle.std.specs.Prelude.{◌||◌, ◌&&◌, ◌==◌, All, count_by, find, if◌then◌else◌, is_none, map, option_map}
 use Rattle.std.specs.List.{list_any}
 use Rattle.std.proofs.Math.Bool.{and-false}
@@ -9,7 +9,7 @@ use Rattle.std.proofs.lemmas.Bool.Decides.{nat_tests}
 use Rattle.std.proofs.lemmas.List.{drop_more, length-map, take-map}
 use Rattle.afdx_plan.specs.Config.{IsPlan, Plan, plan_of_parts}
 use Rattle.afdx_plan.specs.Plan.{IsLink, IsPort}
-use Rattle.afdx_plan.specs.PlanFaults.{any_row, breaks, Cells, fault_number, has_pair, is_misfit, is_no_count, is_past_limit, is_row_of, link_whole, PlanRule, plan_rules, port_misfits, port_whole, same_flow, same_link, same_port, share_unicast, whole}
+use Rattle.afdx_plan.specs.PlanFaults.{any_row, breaks, Cells, fault_number, has_pair, is_misfit, is_no_count, is_past_limit, is_row_of, link_whole, PlanRule, plan_rules, port_whole, same_flow, same_link, same_port, share_unicast, whole}
 use Rattle.afdx_plan.proofs.PlanLemmas.{any_map, counted, named_all, pair_map, Unbroken, valid}
 use Rattle.afdx_plan.specs.declared.fault.ConfigFault.{ConfigFault}
 use Rattle.afdx_plan.specs.declared.fault.ConfigFault.TheVariants.{DuplicateVl, DuplicatePort, NoSuchVl, NoSuchSub, SamplingTooLong, SameFlow, SharedUnicast, Limit}
@@ -24,41 +24,25 @@ use Rattle.plan_table.specs.Rules.{are_one_link, clash, first_broken, is_past, I
 -- the first element of a mapped list that passes a test
 find_map : {A B : Type 0} (p : B → Bool) (f : A → B) (xs : List A) → find p (map f xs) ≡ option_map f (find (λ x. p (f x)) xs)
 find_map p f [] = refl
-find_map p f (x ∷ xs) = elim (cases_Bool (p (f x))) [
-  | inl is ↦ rw is refl
-  | inr isnt ↦ rw isnt (find_map p f xs)
-]
-
--- tests that agree on each element agree on a list
-any_same : {A : Type 0} (p q : A → Bool) (xs : List A) → ((x : A) → p x ≡ q x) → list_any p xs ≡ list_any q xs
-any_same p q [] same = refl
-any_same p q (x ∷ xs) same = rw (same x, any_same p q xs same) refl
-
-row_same : {A : Type 0} (p q : ℕ → A → Bool) (k : ℕ) (xs : List A) → ((k : ℕ) (x : A) → p k x ≡ q k x)
-    → any_row p k xs ≡ any_row q k xs
-row_same p q k [] same = refl
-row_same p q k (x ∷ xs) same = rw (same k x, row_same p q (k + 1) xs same) refl
-
-row_map : {A B : Type 0} (p : ℕ → B → Bool) (f : A → B) (k : ℕ) (xs : List A)
-    → any_row p k (map f xs) ≡ any_row (λ k x. p k (f x)) k xs
-row_map p f k [] = refl
-row_map p f k (x ∷ xs) = ap (λ b. p k (f x) || b) (row_map p f (k + 1) xs)
+find_map p f (x ∷ xs) = grind (arith, find_map p f xs)
 
 -- ports that don't fit their links
-misfit_is : (links : List LinkPlan) (ports : List PortPlan) (misfit : Misfit)
-    → breaks (whole (plan_of_parts 0 links ports)) (port_misfits misfit) ≡ list_any (misfit_in links misfit) ports
-misfit_is links ports misfit = any_map (is_misfit misfit (whole (plan_of_parts 0 links ports))) port_whole ports
-    ∙ any_same _ (misfit_in links misfit) ports (λ port. rw (
-      any_map (λ (l : LinkRow). is_none l.id) link_whole links,
-      named_all links,
-      find_map (is_row_of (port_whole port)) link_whole links,
-    ) refl)
+misfit_is : (links : List LinkPlan) (misfit : Misfit) (all ports : List PortPlan)
+    → list_any (is_misfit misfit (whole (plan_of_parts 0 links all))) (map port_whole ports) ≡ list_any (misfit_in links misfit) ports
+misfit_is links misfit all [] = refl
+misfit_is links misfit all (port ∷ ports) = rw (
+  any_map (λ (l : LinkRow). is_none l.id) link_whole links,
+  named_all links,
+  find_map (is_row_of (port_whole port)) link_whole links,
+  misfit_is links misfit all ports,
+) refl
 
 -- ports past the 64th on their sub-VLs
-packed_is : (ports : List PortPlan)
-    → any_row (is_past_limit (map port_whole ports)) 1 (map port_whole ports) ≡ any_row (is_past ports) 1 ports
-packed_is ports = row_map (is_past_limit (map port_whole ports)) port_whole 1 ports
-    ∙ row_same _ (is_past ports) 1 ports (λ k port. rw (take-map port_whole (k - 1) ports, counted (take (k - 1) ports) port) refl)
+packed_is : (all : List PortPlan) (k : ℕ) (ports : List PortPlan)
+    → any_row (is_past_limit (map port_whole all)) k (map port_whole ports) ≡ any_row (is_past all) k ports
+packed_is all k [] = refl
+packed_is all k (port ∷ ports) =
+    rw (take-map port_whole (k - 1) all, counted (take (k - 1) all) port, packed_is all (k + 1) ports) refl
 
 -- the links, the ports or the ports of a sub-VL are too many or too few
 abbrev pub exceeds : List LinkPlan → List PortPlan → Bool
@@ -66,10 +50,7 @@ exceeds links ports = is_no_count 64 (length links) || (is_no_count 256 (length 
 
 three : (a b c : Bool) → (if a then Some Limit else if b then Some Limit else if c then Some Limit else None)
     ≡ (if a || (b || c) then Some Limit else None)
-three true b c = refl
-three false true c = refl
-three false false true = refl
-three false false false = refl
+three a b c = grind arith
 
 -- the first rule that a plan breaks, by the tests of its links and ports
 pub first_by_tests : (links : List LinkPlan) (ports : List PortPlan)
@@ -86,12 +67,12 @@ first_by_tests links ports =
     rw (
       ← pair_map same_link link_whole links,
       ← pair_map same_port port_whole ports,
-      ← misfit_is links ports NoLink,
-      ← misfit_is links ports NoSub,
-      ← misfit_is links ports TooLong,
+      ← misfit_is links NoLink ports ports,
+      ← misfit_is links NoSub ports ports,
+      ← misfit_is links TooLong ports ports,
       ← pair_map same_flow port_whole ports,
       ← pair_map share_unicast port_whole ports,
-      ← packed_is ports,
+      ← packed_is ports 1 ports,
       ← three,
       length-map,
       length-map,

@@ -1,5 +1,5 @@
 -- The reading of a table.
-use Rattle.std.specs.Prelude.{◌≡◌, ◌≢◌, ℕ, zero, suc, ◌+◌, ◌*◌, ◌/◌, ◌%◌, ◌-◌, ◌≤◌, ◌&&◌, min, max, List, [], ◌∷◌, length, take, drop, get_or, Option, Some, None, nat_eq, if◌then◌else◌, Bool, false, true, bytes_eq}
+use Rattle.std.specs.Prelude.{◌≡◌, ◌≢◌, ℕ, codes, zero, suc, ◌+◌, ◌*◌, ◌/◌, ◌%◌, ◌-◌, ◌≤◌, ◌&&◌, min, max, List, [], ◌∷◌, length, take, drop, get_or, Option, Some, None, nat_eq, if◌then◌else◌, Bool, false, true, bytes_eq}
 use Rattle.std.specs.Int.{to_be_bytes, w32}
 use Rattle.plan_table.specs.Sum.{crc_32}
 use Rattle.afdx_plan.specs.Config.{Plan}
@@ -10,8 +10,6 @@ use Rattle.afdx_plan.specs.declared.link_plan.Bag.TheVariants.{Ms1, Ms2, Ms4, Ms
 use Rattle.afdx_plan.specs.declared.link_plan.LinkPlan.{LinkPlan}
 use Rattle.afdx_plan.specs.declared.link_plan.Networks.{Networks}
 use Rattle.afdx_plan.specs.declared.link_plan.Networks.TheVariants.{Both, OnlyA, OnlyB}
-use Rattle.afdx_plan.specs.declared.port_plan.Kind.{Kind}
-use Rattle.afdx_plan.specs.declared.port_plan.UdpSum.{UdpSum}
 use Rattle.afdx_plan.specs.declared.port_plan.Kind.TheVariants.{Sampling, Queuing}
 use Rattle.afdx_plan.specs.declared.port_plan.PortPlan.{PortPlan}
 use Rattle.afdx_plan.specs.declared.port_plan.UdpSum.TheVariants.{Omitted, Generated}
@@ -43,12 +41,6 @@ bag_from n = if nat_eq n 2 then Ms2 else if nat_eq n 4 then Ms4 else if nat_eq n
 abbrev pub networks_from : ℕ → Networks
 networks_from n = if nat_eq n 1 then OnlyA else if nat_eq n 2 then OnlyB else Both
 
-abbrev pub kind_from : ℕ → Kind
-kind_from n = if nat_eq n 0 then Sampling else Queuing
-
-abbrev pub checksum_from : ℕ → UdpSum
-checksum_from n = if nat_eq n 0 then Omitted else Generated
-
 -- none of two zeros, else an address in 10.0.0.0/8
 abbrev pub address_from : ℕ → ℕ → Option (List ℕ)
 address_from high low = if nat_eq high 0 && nat_eq low 0 then None
@@ -72,12 +64,12 @@ port_from cells = record {
   vl = record { 0 = get_or cells 1 0 };
   sub = min (get_or cells 2 0) 3;
   partition = min (get_or cells 3 0) 31;
-  kind = kind_from (get_or cells 4 0);
+  kind = get_or (Sampling ∷ Queuing ∷ []) (min (get_or cells 4 0) 1) Queuing;
   source = max (get_or cells 5 0) 1;
   destination = max (get_or cells 6 0) 1;
   max = min (max (get_or cells 7 0) 1) 8192;
   unicast = address_from (get_or cells 8 0) (get_or cells 9 0);
-  checksum = checksum_from (get_or cells 10 0);
+  checksum = get_or (Omitted ∷ Generated ∷ []) (min (get_or cells 10 0) 1) Generated;
 }
 
 -- `many` parts, each of `width` numbers
@@ -99,10 +91,9 @@ links_from bytes = parts_from link_from 6 (link_count bytes) (drop 8 (cells_of b
 abbrev pub ports_from : List ℕ → List PortPlan
 ports_from bytes = parts_from port_from 11 (port_count bytes) (drop (8 + 6 * link_count bytes) (cells_of bytes))
 
--- bytes begin with "AFDXPLAN" (`front_cells`), and end with their check
+-- bytes begin with "AFDXPLAN", and end with their check
 abbrev pub starts : List ℕ → Bool
-starts bytes = nat_eq (get_or (cells_of bytes) 0 0) 16710 && nat_eq (get_or (cells_of bytes) 1 0) 17496
-    && nat_eq (get_or (cells_of bytes) 2 0) 20556 && nat_eq (get_or (cells_of bytes) 3 0) 16718
+starts bytes = bytes_eq (take 8 bytes) (codes "AFDXPLAN")
 
 abbrev pub ends : List ℕ → Bool
 ends bytes = bytes_eq (drop (length bytes - 4) bytes) (to_be_bytes w32 (crc_32 (take (length bytes - 4) bytes)))

@@ -1,5 +1,5 @@
 -- The table of a plan: numbers of 16 bits, the high byte first, and the check of these bytes.
-use Rattle.std.specs.Prelude.{◌≡◌, ℕ, ◌+◌, ◌*◌, ◌/◌, ◌%◌, ◌<◌, List, [], ◌∷◌, ◌++◌, length, get_or, Option, Some, None, All}
+use Rattle.std.specs.Prelude.{◌≡◌, ℕ, codes, ◌+◌, ◌*◌, ◌/◌, ◌%◌, ◌<◌, List, [], ◌∷◌, ◌++◌, length, get_or, Option, Some, None, All}
 use Rattle.std.specs.List.{flat_map}
 use Rattle.std.specs.Int.{to_be_bytes, w32}
 use Rattle.afdx_plan.specs.Config.{Plan}
@@ -50,13 +50,9 @@ port_cells port = port.id.0 ∷ port.vl.0 ∷ port.sub ∷ port.partition ∷ ki
     ∷ port.destination ∷ port.max ∷ address_high port.unicast ∷ address_low port.unicast
     ∷ checksum_cell port.checksum ∷ []
 
--- "AFDXPLAN", and the version of the layout
-abbrev pub front_cells : List ℕ
-front_cells = 16710 ∷ 17496 ∷ 20556 ∷ 16718 ∷ 1 ∷ []
-
--- the cells of a plan
+-- the cells of a plan, of which the first is the version of the layout
 unfoldable pub plan_cells : Plan → List ℕ
-plan_cells plan = front_cells ++ plan.end_system ∷ length plan.links ∷ length plan.ports
+plan_cells plan = 1 ∷ plan.end_system ∷ length plan.links ∷ length plan.ports
     ∷ (flat_map link_cells plan.links ++ flat_map port_cells plan.ports)
 
 -- a number of 16 bits, the high byte first
@@ -69,7 +65,7 @@ checked bytes = bytes ++ to_be_bytes w32 (crc_32 bytes)
 
 -- the table of a plan
 abbrev pub table_of : Plan → List ℕ
-table_of plan = checked (flat_map half (plan_cells plan))
+table_of plan = checked (codes "AFDXPLAN" ++ flat_map half (plan_cells plan))
 
 -- the numbers of links and ports are in their ranges, and so are the counts
 pub record IsInRange (plan : Plan) : Type 0 where

@@ -2,8 +2,8 @@
 ghost use Rattle.std.specs.Prelude.{◌≡◌, ◌+◌, ◌*◌, ◌≤◌, ◌++◌, ◌∷◌, [], ℕ, List, length, drop, get_or, IfSome, OnOk};
 ghost use Rattle.std.specs.List.{flat_map};
 ghost use Rattle.afdx_plan.specs.Plan.{IsLink, IsPort, IsUnicast};
-ghost use Rattle.plan_table.specs.Table.{half, link_cells, port_cells, networks_cell, kind_cell, checksum_cell, address_high, address_low};
-ghost use Rattle.plan_table.specs.Reading.{address_from, bag_from, cells_of, checksum_from, kind_from, link_from, networks_from, port_from};
+ghost use Rattle.plan_table.specs.Table.{half, link_cells, port_cells, kind_cell, checksum_cell, address_high, address_low};
+ghost use Rattle.plan_table.specs.Reading.{address_from, bag_from, cells_of, link_from, networks_from, port_from};
 
 use afdx_plan::{Bag, Kind, LinkPlan, Lmax, Networks, PortId, PortPlan, UdpSum, VlId};
 use std::alloc::AllocError;
@@ -84,7 +84,7 @@ impl Part for LinkPlan {
         let lmax = self.lmax.bytes();
         let sub_vls = u16::from(self.sub_vls);
         let capacity = self.capacity as u16;
-        let networks = networks_cell(self.networks);
+        let networks = self.networks as u16;
         put(table, &[self.id.0, bag, lmax, sub_vls, capacity, networks])
     }
 }
@@ -109,12 +109,14 @@ impl Part for PortPlan {
             vl: VlId(cell(bytes, at + 1)),
             sub: cell(bytes, at + 2).min(3) as u8,
             partition: cell(bytes, at + 3).min(31) as u8,
-            kind: kind_from(cell(bytes, at + 4)),
+            kind: [Kind::Sampling, Kind::Queuing][usize::from(cell(bytes, at + 4).min(1))],
             source: cell(bytes, at + 5).max(1),
             destination: cell(bytes, at + 6).max(1),
             max: usize::from(cell(bytes, at + 7).max(1).min(8192)),
             unicast: address_from(cell(bytes, at + 8), cell(bytes, at + 9)),
-            checksum: checksum_from(cell(bytes, at + 10)),
+            checksum: [UdpSum::Omitted, UdpSum::Generated][usize::from(cell(bytes, at + 10).min(
+                1,
+            ))],
         }
     }
 
@@ -167,50 +169,16 @@ fn networks_from(number: u16) -> Networks
     }
 }
 
-fn kind_from(number: u16) -> Kind
-    ensures { result ≡ kind_from number }
-{
-    match number {
-        0 => Kind::Sampling,
-        _ => Kind::Queuing,
-    }
-}
-
-fn checksum_from(number: u16) -> UdpSum
-    ensures { result ≡ checksum_from number }
-{
-    match number {
-        0 => UdpSum::Omitted,
-        _ => UdpSum::Generated,
-    }
-}
-
-fn networks_cell(networks: Networks) -> u16
-    ensures { result ≡ networks_cell networks }
-{
-    match networks {
-        Networks::Both => 0,
-        Networks::OnlyA => 1,
-        Networks::OnlyB => 2,
-    }
-}
-
 fn kind_cell(kind: Kind) -> u16
     ensures { result ≡ kind_cell kind }
 {
-    match kind {
-        Kind::Sampling => 0,
-        Kind::Queuing => 1,
-    }
+    kind as u16
 }
 
 fn checksum_cell(checksum: UdpSum) -> u16
     ensures { result ≡ checksum_cell checksum }
 {
-    match checksum {
-        UdpSum::Omitted => 0,
-        UdpSum::Generated => 1,
-    }
+    checksum as u16
 }
 
 /// Returns the unicast address of two numbers: none if both are 0, else one in 10.0.0.0/8.
@@ -230,11 +198,6 @@ fn address_from(high: u16, low: u16) -> Option<[u8; 4]>
 fn address_cells(address: Option<[u8; 4]>) -> [u16; 2]
     ensures { result ≡ address_high address ∷ address_low address ∷ [] }
 {
-    match address {
-        None => [0, 0],
-        Some(address) => [
-            u16::from_be_bytes([address[0], address[1]]),
-            u16::from_be_bytes([address[2], address[3]]),
-        ],
-    }
+    let [a, b, c, d] = address.unwrap_or([0; 4]);
+    [u16::from_be_bytes([a, b]), u16::from_be_bytes([c, d])]
 }

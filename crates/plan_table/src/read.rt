@@ -2,7 +2,7 @@
 ghost use Rattle.std.specs.Prelude.{◌≡◌, ◌*◌, ◌+◌, ◌≤◌, ◌<◌, All, length, drop, IfOk, IfErr, IfSome, IsNone, true};
 ghost use Rattle.plan_table.specs.Table.{IsTableOf};
 ghost use Rattle.afdx_plan.specs.Plan.{IsLink, IsPort};
-ghost use Rattle.plan_table.specs.Reading.{cells_of, ends, HasLength, IsFaultOf, links_from, parts_from, ports_from, starts};
+ghost use Rattle.plan_table.specs.Reading.{cells_of, ends, HasLength, IsFaultOf, links_from, parts_from, ports_from};
 
 use crate::fault::TableFault;
 use crate::part::{Part, cell};
@@ -40,7 +40,7 @@ fn front_fault(bytes: &[u8]) -> Option<TableFault>
     ensures length { IsNone result → HasLength bytes.now }
     ensures sum { IsNone result → ends bytes.now ≡ true }
 {
-    if bytes.len() < 20 || !has_front(bytes) {
+    if bytes.len() < 20 || bytes.split_at(8).0 != FRONT.as_slice() {
         return Some(TableFault::NoTable);
     }
     if cell(bytes, 4) != TABLE_LAYOUT {
@@ -55,17 +55,6 @@ fn front_fault(bytes: &[u8]) -> Option<TableFault>
         return Some(TableFault::WrongSum);
     }
     None
-}
-
-/// Returns whether bytes begin with "AFDXPLAN".
-fn has_front(bytes: &[u8]) -> bool
-    requires { 20 ≤ length bytes.now }
-    ensures { result ≡ starts bytes.now }
-{
-    cell(bytes, 0) == FRONT[0]
-        && cell(bytes, 1) == FRONT[1]
-        && cell(bytes, 2) == FRONT[2]
-        && cell(bytes, 3) == FRONT[3]
 }
 
 /// Returns whether bytes end with their check.

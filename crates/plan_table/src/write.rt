@@ -3,7 +3,7 @@ ghost use Rattle.std.specs.Prelude.{◌≡◌, ◌++◌, All, length, ◌<◌, I
 ghost use Rattle.std.specs.List.{flat_map};
 ghost use Rattle.afdx_plan.specs.Config.{plan_of_parts};
 ghost use Rattle.afdx_plan.specs.Plan.{IsLink, IsPort};
-ghost use Rattle.plan_table.specs.Table.{half, IsTableOf, table_of};
+ghost use Rattle.plan_table.specs.Table.{half, IsTableOf};
 
 use crate::part::{Part, put};
 use crate::sum::crc_32;
@@ -13,8 +13,8 @@ use std::alloc::{AllocError, Global};
 /// The version of the layout.
 pub const TABLE_LAYOUT: u16 = 1;
 
-// "AFDXPLAN".
-pub const FRONT: [u16; 4] = [0x4146, 0x4458, 0x504c, 0x414e];
+// The bytes with which a table begins.
+pub const FRONT: [u8; 8] = *b"AFDXPLAN";
 
 /// Adds parts to a table.
 fn put_parts<P: Part>(table: &mut Vec<u8>, parts: &[P]) -> Result<(), AllocError>
@@ -39,10 +39,10 @@ pub fn write_parts(
     requires ports { All IsPort ports.now }
     requires few_links { length links.now < 65536 }
     requires few_ports { length ports.now < 65536 }
-    ensures { IfOk result (λ table. table.items ≡ table_of (plan_of_parts end_system links.now ports.now)) }
+    ensures { IfOk result (λ table. IsTableOf table.items (plan_of_parts end_system links.now ports.now)) }
 {
     let mut table = Vec::new(alloc);
-    put(&mut table, &FRONT)?;
+    table.extend_from_slice(&FRONT)?;
     let counts = [links.len() as u16, ports.len() as u16];
     put(
         &mut table,

@@ -1,7 +1,7 @@
-use Rattle.std.proofs.Common.{◌≡◌, ◌∙◌, arith, get_or, rules}
+use Rattle.std.proofs.Common.{◌≡◌, arith, get_or, rules}
 use Rattle.std.proofs.lemmas.Slice.Eq.{bytes_eq-Decides}
 use Rattle.afdx_plan.specs.Config.{plan_of_parts}
-use Rattle.plan_table.specs.Table.{IsInRange, table_of}
+use Rattle.plan_table.specs.Table.{IsTableOf}
 use Rattle.plan_table.specs.Reading.{cells_of, links_from, ports_from}
 use Rattle.plan_table.proofs.ReadLemmas.{no_table}
 use Rattle.plan_table.proofs.RuleLemmas.{first_is_least, whole_is_valid}
@@ -11,7 +11,7 @@ pub returns-then-ne-clause-fault : goal.returns-then-ne-clause-fault
 returns-then-ne-clause-fault c =
     let bytes = c.args.bytes.now in
     let plan = plan_of_parts c.cell-end_system.result c.in-Ok.links.items c.in-Ok.ports.items in
-    let of : c.in-Ok-write_parts.table.items ≡ table_of plan = search rules in
+    let of : IsTableOf c.in-Ok-write_parts.table.items plan = search rules in
     let end : c.cell-end_system.result ≡ get_or (cells_of bytes) 5 0 = search rules in
     let links : c.in-Ok.links.items ≡ links_from bytes = search rules in
     let ports : c.in-Ok.ports.items ≡ ports_from bytes = search rules in
@@ -26,13 +26,6 @@ pub returns-in-Some-first_fault-clause-fault : goal.returns-in-Some-first_fault-
 returns-in-Some-first_fault-clause-fault c = λ real.
     let bytes = c.args.bytes.now in
     let plan = plan_of_parts c.cell-end_system.result c.in-Ok.links.items c.in-Ok.ports.items in
-    let of : c.in-Ok-write_parts.table.items ≡ table_of plan = search rules in
-    let same : bytes ≡ c.in-Ok-write_parts.table.items = grind (arith, bytes_eq-Decides) in
-    let ranges : IsInRange plan = record {
-      end_system = omega arith;
-      links = c.in-Ok.ensures.links.0;
-      ports = c.in-Ok.ensures.ports.0;
-      few_links = c.in-Ok.ensures.links.1;
-      few_ports = c.in-Ok.ensures.ports.1;
-    } in
-    (plan, record { ranges = ranges; table = same ∙ of }, first_is_least plan c.in-Some-first_fault.fault (search rules))
+    let same : c.in-Ok-write_parts.table.items ≡ bytes = grind (arith, bytes_eq-Decides) in
+    let of : IsTableOf c.in-Ok-write_parts.table.items plan = search rules in
+    (plan, rw same at of, first_is_least plan c.in-Some-first_fault.fault (search rules))
