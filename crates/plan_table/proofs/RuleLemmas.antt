@@ -89,10 +89,7 @@ past_here ports k n d below count many =
 -- no rule of these is broken if none is the first that is
 none_broken : (plan : Plan) (some : List PlanRule) → first_broken (whole plan) some ≡ None → Unbroken plan some
 none_broken plan [] is = tt
-none_broken plan (r ∷ some) is = elim (cases_Bool (breaks (whole plan) r.forbids)) [
-  | inl broken ↦ let wrong = rw broken at is in cc
-  | inr whole ↦ (whole, none_broken plan some (rw whole at is))
-]
+none_broken plan (r ∷ some) is = grind (arith, none_broken plan some)
 
 pub whole_is_valid : (plan : Plan) → plan.end_system < 65536 → All IsLink plan.links → All IsPort plan.ports
     → first_broken (whole plan) plan_rules ≡ None → IsPlan plan
@@ -110,9 +107,8 @@ IsFrom n (r ∷ some) = (n ≤ fault_number r.fault) × IsFrom (fault_number r.f
 none_lower : (cells : Cells) (other : ConfigFault) (n : ℕ) (some : List PlanRule) → IsFrom n some → fault_number other < n
     → shows_in cells other some ≡ false
 none_lower cells other n [] from below = refl
-none_lower cells other n (r ∷ some) (least, from) below =
-    let differ : (fault_number other == fault_number r.fault) ≡ false = grind (arith, nat_tests) in
-    rw (differ, none_lower cells other (fault_number r.fault) some from (omega arith)) refl
+none_lower cells other n (r ∷ some) from below =
+    grind (arith, nat_tests, none_lower cells other (fault_number r.fault) some)
 
 least_in : (cells : Cells) (n : ℕ) (some : List PlanRule) (fault : ConfigFault) → IsFrom n some
     → first_broken cells some ≡ Some fault → (shows_in cells fault some ≡ true)

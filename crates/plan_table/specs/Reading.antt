@@ -8,7 +8,6 @@ use Rattle.afdx_plan.specs.declared.fault.ConfigFault.TheVariants.{Memory}
 use Rattle.afdx_plan.specs.declared.link_plan.Bag.{Bag}
 use Rattle.afdx_plan.specs.declared.link_plan.Bag.TheVariants.{Ms1, Ms2, Ms4, Ms8, Ms16, Ms32, Ms64, Ms128}
 use Rattle.afdx_plan.specs.declared.link_plan.LinkPlan.{LinkPlan}
-use Rattle.afdx_plan.specs.declared.link_plan.Networks.{Networks}
 use Rattle.afdx_plan.specs.declared.link_plan.Networks.TheVariants.{Both, OnlyA, OnlyB}
 use Rattle.afdx_plan.specs.declared.port_plan.Kind.TheVariants.{Sampling, Queuing}
 use Rattle.afdx_plan.specs.declared.port_plan.PortPlan.{PortPlan}
@@ -38,9 +37,6 @@ bag_from n = if nat_eq n 2 then Ms2 else if nat_eq n 4 then Ms4 else if nat_eq n
     else if nat_eq n 16 then Ms16 else if nat_eq n 32 then Ms32 else if nat_eq n 64 then Ms64
     else if nat_eq n 128 then Ms128 else Ms1
 
-abbrev pub networks_from : ℕ → Networks
-networks_from n = if nat_eq n 1 then OnlyA else if nat_eq n 2 then OnlyB else Both
-
 -- none of two zeros, else an address in 10.0.0.0/8
 abbrev pub address_from : ℕ → ℕ → Option (List ℕ)
 address_from high low = if nat_eq high 0 && nat_eq low 0 then None
@@ -54,7 +50,7 @@ link_from cells = record {
   lmax = min (max (get_or cells 2 0) 64) 1518;
   sub_vls = min (max (get_or cells 3 0) 1) 4;
   capacity = min (max (get_or cells 4 0) 1) 256;
-  networks = networks_from (get_or cells 5 0);
+  networks = get_or (Both ∷ OnlyA ∷ OnlyB ∷ []) (min (get_or cells 5 0) 2) OnlyB;
 }
 
 -- the port of these numbers, each in its range

@@ -3,10 +3,17 @@ ghost use Rattle.std.specs.Prelude.{◌≡◌, ◌+◌, ◌*◌, ◌≤◌, ◌+
 ghost use Rattle.std.specs.List.{flat_map};
 ghost use Rattle.afdx_plan.specs.Plan.{IsLink, IsPort, IsUnicast};
 ghost use Rattle.plan_table.specs.Table.{half, link_cells, port_cells, kind_cell, checksum_cell, address_high, address_low};
-ghost use Rattle.plan_table.specs.Reading.{address_from, bag_from, cells_of, link_from, networks_from, port_from};
+ghost use Rattle.plan_table.specs.Reading.{address_from, bag_from, cells_of, link_from, port_from};
 
 use afdx_plan::{Bag, Kind, LinkPlan, Lmax, Networks, PortId, PortPlan, UdpSum, VlId};
 use std::alloc::AllocError;
+
+// The networks, kinds and checksums by their numbers.
+const NETWORKS: [Networks; 3] = [Networks::Both, Networks::OnlyA, Networks::OnlyB];
+
+const KINDS: [Kind; 2] = [Kind::Sampling, Kind::Queuing];
+
+const CHECKSUMS: [UdpSum; 2] = [UdpSum::Omitted, UdpSum::Generated];
 
 /// Returns the number at index `k` of a table.
 #[tactic(auto, using(crate::proofs::CellLemmas::cell_is))]
@@ -75,7 +82,7 @@ impl Part for LinkPlan {
             lmax: Lmax::new(cell(bytes, at + 2).max(64).min(1518)),
             sub_vls: cell(bytes, at + 3).max(1).min(4) as u8,
             capacity: usize::from(cell(bytes, at + 4).max(1).min(256)),
-            networks: networks_from(cell(bytes, at + 5)),
+            networks: NETWORKS[usize::from(cell(bytes, at + 5).min(2))],
         }
     }
 
@@ -109,14 +116,12 @@ impl Part for PortPlan {
             vl: VlId(cell(bytes, at + 1)),
             sub: cell(bytes, at + 2).min(3) as u8,
             partition: cell(bytes, at + 3).min(31) as u8,
-            kind: [Kind::Sampling, Kind::Queuing][usize::from(cell(bytes, at + 4).min(1))],
+            kind: KINDS[usize::from(cell(bytes, at + 4).min(1))],
             source: cell(bytes, at + 5).max(1),
             destination: cell(bytes, at + 6).max(1),
             max: usize::from(cell(bytes, at + 7).max(1).min(8192)),
             unicast: address_from(cell(bytes, at + 8), cell(bytes, at + 9)),
-            checksum: [UdpSum::Omitted, UdpSum::Generated][usize::from(cell(bytes, at + 10).min(
-                1,
-            ))],
+            checksum: CHECKSUMS[usize::from(cell(bytes, at + 10).min(1))],
         }
     }
 
@@ -156,16 +161,6 @@ fn bag_from(number: u16) -> Bag
         64 => Bag::Ms64,
         128 => Bag::Ms128,
         _ => Bag::Ms1,
-    }
-}
-
-fn networks_from(number: u16) -> Networks
-    ensures { result ≡ networks_from number }
-{
-    match number {
-        1 => Networks::OnlyA,
-        2 => Networks::OnlyB,
-        _ => Networks::Both,
     }
 }
 
