@@ -245,6 +245,7 @@ def try_bare(tried):
     made = tried.ran([shutil.which("gcc") or tried.cc, *words, "-o", "bare"])
     if tried.show("without a C library", made, ""):
         tried.show("without a C library: it runs", tried.ran(["./bare"]), ONE_FRAME)
+        try_size(tried)
     listed = tried.ran(["nm", "-g", f"{tried.prefix}/lib/libafdx_core.a"]).stdout
     text = {name for name in ("open", "explain", "script_line", "judge", "judge_pair", "capture_lost") if re.search(rf" T afdx_{name}$", listed, re.MULTILINE)}
     wanted = {"memcpy", "memmove", "memset", "rattle_alloc", "rattle_dealloc", "rattle_realloc"}
@@ -253,6 +254,19 @@ def try_bare(tried):
     written = re.findall(r" ([BbCDdGgSs]) (\S+)$", tried.ran(["nm", f"{tried.prefix}/lib/libafdx_core.a"]).stdout, re.MULTILINE)
     registers = set(re.findall(r"%(?:[yz]mm|mm|st)\b|%(?:[yz]mm|mm)\d+", tried.ran(["objdump", "-d", f"{tried.prefix}/lib/libafdx_core.a"]).stdout))
     tried.tries.show("libafdx_core.a: no data that is written, no other registers than SSE's", [f"{written}, {registers}"] if written or registers else [])
+
+
+def try_size(tried):
+    """The example without a C library, and libafdx_core.a with all its calls, have no more code than the guide says, and the example
+    less than 40 KB. `size` counts code and constants in its first column: all that is loaded and never written."""
+    if os.path.isfile(f"{ROOT}/crates/afdx/out/libafdx-address.a"):
+        tried.tries.skip("size of the code: not the library of a proof")
+        return
+    said = re.search(r"main\.c` has (\d+) KB of code and constants then\. All calls of `libafdx_core\.a` together have (\d+) KB", text_of("docs/guide/embedding.md"))
+    for path, most in (("bare", said[1]), (f"{tried.prefix}/lib/libafdx_core.a", said[2])):
+        text = int(tried.ran(["size", path]).stdout.splitlines()[1].split()[0])
+        is_well = text <= 1024 * int(most) and (path != "bare" or text < 1024 * 40)
+        tried.tries.show(f"{os.path.basename(path)}: {text} bytes of code and constants", [] if is_well else [f"more than {most} KB"])
 
 
 def try_cpp(tried, more):
