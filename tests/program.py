@@ -46,6 +46,7 @@ FILES = {
     "short.txt": SCRIPT, "long.txt": LONG, "faulty.txt": SCRIPT + "at x\n", "full.txt": FULL, "lines.txt": "\n" * 1_000_001,
 }
 RUN, JUDGE, CHECK = ["run", "demo.toml", "short.txt"], ["judge", "demo.toml", "short.txt"], ["check", "demo.toml"]
+ARINC = [*JUDGE, "--profile", "arinc"]
 STORM = ["storm", "demo.toml", "--messages", "2", "--turns", "1000"]
 LATE = ["storm", "demo.toml", "--messages", "3", "--turns", "1"]
 CAPTURED = [*RUN, "--capture", "frames.pcapng"]
@@ -168,6 +169,10 @@ report demo.toml demo.toml --html made.html,report demo.toml --lateness 1000001,
 judge demo.toml,judge demo.toml b c d,judge demo.toml b --jitter,judge demo.toml b --jitter 1000001,judge demo.toml b --profile none,judge demo.toml b --with,judge demo.toml b --every 0,judge demo.toml b --every 1000,storm demo.toml,
 storm demo.toml --messages 1,storm demo.toml --messages 65536 --turns 1,storm demo.toml --messages 1 --turns 1000000001"""
 
+# What is no constant field, and what are no two different interface bytes.
+NO_CONSTANTS = ["", "3000000", "0300000", "030000000", "03:00:00", "03:00:00:00:", "03:00:0000", "0:3:00:00", "+3000000", "0x030000", "03 00 00 00", "03-00-00-00", "gg000000"]
+NO_BYTES = ["", "21", "21,", ",21", "21,21", "2a,2A", "21,41,61", "2141", "1,2", "0x21,41", "21:41", "21, 41", "-1,41", "321,41"]
+
 # The standard streams that are closed before a run, in each way.
 CLOSED = [[0], [1], [2], [0, 1], [0, 2], [1, 2], [0, 1, 2]]
 
@@ -244,6 +249,13 @@ def numbers(room):
             room.is_refused(*ANALYSE, "--lateness", it)
             room.is_refused(*JUDGE, "--jitter", it)
             room.is_refused(*JUDGE, "--skew", it)
+    for it in NO_CONSTANTS:
+        room.is_refused(*ARINC, "--constant", it)
+        room.is_refused(*ARINC, "--constant", it, "--interfaces", "21,41")
+    for it in NO_BYTES:
+        room.is_refused(*ARINC, "--interfaces", it)
+    for more in (["--constant", "03000001"], ["--interfaces", "21,41"], ["--interfaces", "21,41", "--profile", "own"]):
+        room.is_refused(*JUDGE, *more)
     for line in NO_COMMANDS.split(","):
         room.is_refused(*line.split())
 

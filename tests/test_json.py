@@ -25,6 +25,8 @@ from recordings import recorded
 from trials import changed, files_of
 
 PROGRAM = f"{trying.ROOT}/crates/afdx_bench/out/afdx_bench"
+# The words for addresses that aren't the profile's.
+OWN = ["--profile", "arinc", "--constant", "03:00:00:0A", "--interfaces", "40,0b"]
 TRAFFIC = "port,name,period_us,deadline_us\n"
 
 
@@ -259,7 +261,7 @@ def judge(seed):
         names.append(f"capture{k}")
         with open(names[-1], "wb") as file:
             file.write(data)
-    lines, read = both("judge", plan, *names, *rng.choice(([], ["--all-links"], ["--foreign"])))
+    lines, read = both("judge", plan, *names, *rng.choice(([], ["--all-links"], ["--foreign"], OWN)))
     it = read["recording"]
     if not it["judged"]:
         (place,) = [row["capture"] for row in it["captures"] if lines[1].startswith(f"capture {row['capture']}: ")]
@@ -276,6 +278,9 @@ def judge(seed):
     faults += [] if all(row["told"].startswith(f"{row['packets']} packets") for row in it["captures"]) else [f"{it['captures']}"]
     networks = ", ".join(f"{row['network']} is interface {row['interface']} of capture {row['capture']}" for row in sorted(it["networks"], key=lambda row: row["network"]))
     faults += [] if not networks or f"networks: {networks}" in lines else [networks]
+    own = it["addressing"]
+    told = [f"addresses: constant {own['constant']}, interfaces {own['interface_a']:02x},{own['interface_b']:02x}"] if own else []
+    faults += [] if told == [line for line in lines if line.startswith("addresses: ")] else [f"{own}"]
     head = next(place for place, line in enumerate(lines) if line.startswith(" link net"))
     rows = rows_of(it["plans"][0]["links"], *columns("link net frames bytes messages bag_ns least_gap_ns lead_ns greatest_gap_ns mean_gap_ns mean_lead_ns used_percent.2"))
     return faults + ([] if rows == [line.split() for line in lines[head + 1 :]] else [f"{rows} for {lines[head + 1:]}"])
@@ -298,7 +303,7 @@ def documented():
     save("recorded.toml", text_of(recording.plan, random.Random(1)))
     with open("one", "wb") as file:
         file.write(files_of([it._replace(data=bytes(60)) for it in recording.packets], random.Random(1), True)[0])
-    for words in (["check", plan], ["explain", "bad.toml"], ["report", plan, "--traffic", "traffic.csv"], ["judge", "recorded.toml", "one", "--foreign"]):
+    for words in (["check", plan], ["explain", "bad.toml"], ["report", plan, "--traffic", "traffic.csv"], ["judge", "recorded.toml", "one", "--foreign", *OWN]):
         told = keys_of(json.loads(ran(*words, "--json")[1]))
         part = page[page.index(f"## `{words[0]}`") :].partition("\n## ")[0] + page.partition("\n## ")[0]
         faults += [f"{words[0]}: {key} isn't on the page" for key in sorted(told) if not re.search(rf"[`.]{key}\b", part)]

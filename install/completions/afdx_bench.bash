@@ -13,7 +13,7 @@ _afdx_bench() {
         *:compile) words='--c --help' ;;
         *:report) words='--lateness --html --traffic --csv --date --strict --json --help' ;;
         *:schedule) words='--traffic --seconds --seed --help' ;;
-        *:judge) words='--with --jitter --skew --late --fcs --profile --html --json --all-links --foreign --by-byte --every --help' ;;
+        *:judge) words='--with --jitter --skew --late --fcs --profile --constant --interfaces --html --json --all-links --foreign --by-byte --every --help' ;;
         *:storm) words='--messages --turns --help' ;;
         *) words=--help ;;
         esac

@@ -27,6 +27,8 @@ complete -c afdx_bench -n '__fish_seen_subcommand_from judge' -l skew -x -d 'The
 complete -c afdx_bench -n '__fish_seen_subcommand_from judge' -l late -d 'The recording began after the end system'
 complete -c afdx_bench -n '__fish_seen_subcommand_from judge' -l fcs -d 'Frames were recorded with their check sequence'
 complete -c afdx_bench -n '__fish_seen_subcommand_from judge' -l profile -x -a 'own arinc' -d 'Chooses the rules for frames'
+complete -c afdx_bench -n '__fish_seen_subcommand_from judge' -l constant -x -d 'The constant field of destination MAC addresses'
+complete -c afdx_bench -n '__fish_seen_subcommand_from judge' -l interfaces -x -d 'The interface bytes of networks A and B'
 complete -c afdx_bench -n '__fish_seen_subcommand_from judge' -l html -r -F -d 'Also writes the summary as a page'
 complete -c afdx_bench -n '__fish_seen_subcommand_from judge' -l with -r -F -d 'The plan of one more end system'
 complete -c afdx_bench -n '__fish_seen_subcommand_from judge' -l all-links -d 'A link without a frame is a finding'

@@ -44,6 +44,8 @@ def page(seed: int) -> list[str]:
     rng = random.Random(f"page {seed}")
     recording, jitter = recorded(rng, 12), rng.choice((0, 0, 999))
     options = Options(jitter, rng.choice((10_000, 6_000, 250_000)))
+    # (every fifth with the addresses of the profile, by hand)
+    options = options._replace(arinc=True, interfaces=b"\x20\x40") if seed % 5 == 0 else options
     packets = list(recording.packets)
     for _ in range(rng.choice((0, 1, 3, 200))):
         changed(packets, rng)
@@ -76,7 +78,8 @@ def page(seed: int) -> list[str]:
     for key, at in (("first", min(times, default=None)), ("last", last)):
         is_well = at is None or shown.named.get(key) == f"{at // 10**9}.{at % 10**9:09}\u00a0s"
         faults += [] if is_well or key == "first" and first != at else [f"{key}: {shown.named.get(key)} for {at}"]
-    faults += [] if shown.named["options"] == f"jitter {jitter} µs, skew {options.skew} µs, profile own" else [shown.named["options"]]
+    profile = f"arinc, {options.addresses()}" if options.arinc else "own"
+    faults += [] if shown.named["options"] == f"jitter {jitter} µs, skew {options.skew} µs, profile {profile}" else [shown.named["options"]]
     files = [f"{os.getpid()}-plan", hashlib.sha256(plan.encode()).hexdigest(), f"{os.getpid()}-0: {len(Reader(capture).packets)} packets"]
     faults += [f"no {it}" for it in files if f"<dd>{it}" not in text]
     return [f"page {seed}: {fault}" for fault in faults]

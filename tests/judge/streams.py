@@ -8,20 +8,41 @@ ICMP = 1
 
 
 class Options(NamedTuple):
-    """The options of the command."""
+    """The options of the command. With neither a constant field nor interface bytes, the profile's are wanted."""
 
     jitter: int = 0
     skew: int = 10_000
     late: bool = False
     fcs: bool = False
     arinc: bool = False
+    constant: bytes | None = None
+    interfaces: bytes | None = None
+
+    def front(self) -> bytes:
+        """The constant field of destination MAC addresses."""
+        return self.constant or b"\3\0\0\0"
+
+    def byte_11(self) -> dict[str, int]:
+        """The interface bytes of the networks."""
+        return dict(zip("AB", self.interfaces or b"\x20\x40", strict=True))
+
+    def addresses(self) -> str:
+        """What is printed of the addresses, if some are given."""
+        a, b = self.byte_11().values()
+        told = f"constant {self.front().hex(':')}, interfaces {a:02x},{b:02x}"
+        return told if self.constant or self.interfaces else ""
 
     def words(self) -> list[str]:
         """The words of the command line."""
         words = [] if self.jitter == 0 else ["--jitter", str(self.jitter)]
         words += [] if self.skew == 10_000 else ["--skew", str(self.skew)]
         words += ["--late"] * self.late + ["--fcs"] * self.fcs
-        return words + ["--profile", "arinc"] * self.arinc
+        words += ["--profile", "arinc"] * self.arinc
+        if self.constant:
+            # (either form, and digits of either case)
+            text = self.constant.hex(":") if self.constant[3] % 2 else self.constant.hex()
+            words += ["--constant", text.upper() if self.constant[2] % 2 else text]
+        return words + (["--interfaces", self.interfaces.hex(",")] if self.interfaces else [])
 
 
 def differ(seen: int, wanted: int) -> str:

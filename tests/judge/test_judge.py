@@ -21,6 +21,7 @@ HERE = os.path.dirname(os.path.abspath(__file__))
 ROOT = os.path.dirname(os.path.dirname(HERE))
 sys.dont_write_bytecode = True
 sys.path[:0] = [f"{ROOT}/tests", HERE, f"{ROOT}/tests/run", f"{ROOT}/tests/explain", f"{ROOT}/tests/report"]
+import addresses  # noqa: E402
 import breaking  # noqa: E402
 import edges  # noqa: E402
 import losses  # noqa: E402
@@ -353,6 +354,8 @@ def main() -> int:
             cases = [(kind, seed) for seed in range(counts.planted * (1 if kind else 8))]
             tries.attempt(f"{len(cases)} times {word} alone", lambda cases=cases: (tried(planted, cases), ""))
         for task in (known_again, late, jittered, checked, told, of_another_maker, staggered, lost, unmerged, mixed):
+            tries.attempt(f"{task.__name__}, {counts.mixed} times", lambda task=task: (tried(task, range(counts.mixed)), ""))
+        for task in (addresses.own_addresses, addresses.wrong_addresses, addresses.mixed_addresses):
             tries.attempt(f"{task.__name__}, {counts.mixed} times", lambda task=task: (tried(task, range(counts.mixed)), ""))
         tries.attempt("each prefix of a capture", lambda: (tried(prefix, prefixes(4 if counts is FEW else 60)), ""))
         tries.attempt(f"{counts.damaged} damaged captures", lambda: (tried(damaged, range(counts.damaged)), ""))

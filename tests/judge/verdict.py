@@ -8,7 +8,6 @@ from captures import SECOND, Packet, Reader, merged
 from streams import ICMP, Options, Piece, Stream, Table, differ, half, words
 
 KINDS = "Frame Source Link Network Size Number Early Port Fragment Message Turn Twin Missing Restart".split()
-BYTE_11 = {"A": 0x20, "B": 0x40}
 PRINTED = 100
 FOREIGN_ROWS = 64
 HEAD = " link net      frames         bytes    messages      bag-ns   least-gap-ns     lead-ns"
@@ -43,9 +42,10 @@ class Repeated(Exception):
     """One more frame with its check sequence, which was told once."""
 
 
-def layout_fault(frame: bytes, arinc: bool) -> tuple[str, str] | None:
+def layout_fault(frame: bytes, options: Options) -> tuple[str, str] | None:
     """The first rule of the layout that a frame breaks, and what is said. By ARINC 664 alone, three fields may be anything, a
     whole datagram may have the flag DF, and a frame may carry ICMP."""
+    arinc = options.arinc
     free = {8: frame[15:16], 9: frame[22:23]} if arinc else {8: b"\0", 9: b"\1"}
     if not 60 <= len(frame) <= 1514:
         return "Length", differ(len(frame), min(max(len(frame), 60), 1514))
@@ -57,9 +57,9 @@ def layout_fault(frame: bytes, arinc: bool) -> tuple[str, str] | None:
     is_address = frame[26] == 10 and frame[27:29] == frame[9:11] and frame[29] < 32
     is_destination = frame[30] == 10 or frame[30:34] == b"\xe0\xe0" + frame[4:6]
     rules = {
-        "DestinationMac": (0, frame[:4] == b"\3\0\0\0"),
+        "DestinationMac": (0, frame[:4] == options.front()),
         "SourceMac": (6, frame[6:9] == b"\2\0\0"),
-        "Interface": (11, frame[11] in BYTE_11.values()),
+        "Interface": (11, frame[11] in options.byte_11().values()),
         "EtherType": (12, frame[12:14] == b"\x08\0"),
         "Version": (14, frame[14:16] == b"\x45" + free[8]),
         "TotalLength": (16, is_long),
@@ -154,7 +154,7 @@ class Judge:
 
     def accept(self, frame: bytes, network: str) -> None:
         """Refuses a frame that isn't of the layout, the end system, a link or the network."""
-        fault = layout_fault(frame, self.options.arinc)
+        fault = layout_fault(frame, self.options)
         if fault:
             raise Refused(None, "Frame", *fault)
         if half(frame, 9) != self.end_system:
@@ -162,7 +162,7 @@ class Judge:
         vl = half(frame, 4)
         if vl not in self.links:
             raise Refused(vl, "Link", "", "")
-        wanted = BYTE_11[network] if network in self.nets(self.links[vl]) else 0
+        wanted = self.options.byte_11()[network] if network in self.nets(self.links[vl]) else 0
         if frame[11] != wanted:
             raise Refused(vl, "Network", "", differ(frame[11], wanted))
 
@@ -283,7 +283,7 @@ class Tap:
     """The judges of the plans of a network, what they found, which interface was which network, and foreign frames."""
 
     def __init__(self, plans: list[Table], options: Options, ways: Ways) -> None:
-        self.judges, self.ways, self.findings, self.taken, self.foreign = [], ways, [], [], {}
+        self.judges, self.options, self.ways, self.findings, self.taken, self.foreign = [], options, ways, [], [], {}
         for plan in plans:
             self.judges.append(Judge(plan, options))
             self.judges[-1].findings = self.findings
@@ -298,7 +298,7 @@ class Tap:
             self.foreign[key] = self.foreign.get(key, 0) + 1
             return
         if self.ways.by_byte and len(data) >= 12:
-            network = {byte: name for name, byte in BYTE_11.items()}.get(data[11])
+            network = {byte: name for name, byte in self.options.byte_11().items()}.get(data[11])
             if network is None:
                 self.findings.append(Finding("Network", "", *tag, None, differ(data[11], 0)))
                 return
@@ -330,6 +330,7 @@ class Tap:
         """The lines after those of the captures."""
         taken = [f"{net} is interface {interface} of capture {place}" for net, place, interface in sorted(self.taken, key=lambda it: it[0])]
         text = f"networks: {', '.join(taken)}\n" if taken else ""
+        text += f"addresses: {self.options.addresses()}\n" if self.options.addresses() else ""
         text += "".join(map(self.silence, self.judges))
         for key, count in self.foreign.items():
             text += f"foreign: {count} of {key[0].hex(':')}, EtherType {key[1]:04x}\n" if key else ""

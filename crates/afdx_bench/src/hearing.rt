@@ -1,18 +1,18 @@
 //! The judges of a recording, and what came of the packets that they heard: findings, how many there are, foreign
 //! frames, silent links, and the rows of links.
+use crate::addresses::{Addresses, Rewriting, net_of};
 use crate::findings::{FindingLine, Tally, mark_of, network_name};
 use crate::foreign::Foreign;
 use crate::link_row::write_table;
 use crate::stop::Stop;
 use afdx_frame::Net;
-use afdx_frame::net::{INTERFACE_A, INTERFACE_B};
 use afdx_plan::{Config, LinkPlan};
 use capture::Packet;
 use judge::{Figures, Finding, FindingKind, Judge, Options};
 use plan_analysis::carries;
 use std::alloc::{AllocError, Global};
 use std::io::{self, Write};
-use tap::Tap;
+use tap::{Addressing, Tap};
 
 // The nanoseconds of a second.
 const SECOND: u128 = 1_000_000_000;
@@ -27,6 +27,8 @@ pub struct Ways {
     pub foreign: bool,
     /// The network of a frame is what its byte 11 says.
     pub by_byte: bool,
+    /// The addresses of frames, if they aren't the profile's.
+    pub addressing: Option<Addressing>,
     /// The nanoseconds of the recording after which the rows are written each time.
     pub every: Option<u128>,
     /// Findings are kept and not written.
@@ -53,6 +55,7 @@ pub struct Hearing {
     /// The times of the first packet and of the latest.
     pub times: Option<(u128, u128)>,
     ways: Ways,
+    rewriting: Option<Rewriting>,
     // the findings of one packet
     found: Vec<Finding>,
     // when the rows are written next
@@ -75,6 +78,9 @@ impl Hearing {
             taken: Vec::new(alloc),
             times: None,
             ways,
+            rewriting: ways
+                .addressing
+                .map(|own| Rewriting::new(alloc, own, options.fcs)),
             found: Vec::new(alloc),
             due: None,
         })
@@ -114,10 +120,9 @@ impl Hearing {
         packet: &Packet<'_>,
     ) -> Result<(), AllocError> {
         let net = match packet.bytes.get(11) {
-            Some(byte) if self.ways.by_byte => match *byte {
-                INTERFACE_A => Net::A,
-                INTERFACE_B => Net::B,
-                other => return Ok(self.found.push(of_no_network(net, number, packet, other))?),
+            Some(byte) if self.ways.by_byte => match net_of(self.ways.addressing, *byte) {
+                Some(net) => net,
+                None => return Ok(self.found.push(of_no_network(net, number, packet, *byte))?),
             },
             _ => net,
         };
@@ -126,7 +131,13 @@ impl Hearing {
             capture,
             interface: packet.interface,
         })?;
-        self.tap.take(net, number, packet, &mut self.found)
+        let Some(rewriting) = &mut self.rewriting else {
+            return self.tap.take(net, number, packet, &mut self.found);
+        };
+        let own = rewriting.packet(packet)?;
+        self.tap.take(net, number, &own, &mut self.found)?;
+        rewriting.restore(self.found.as_mut_slice());
+        Ok(())
     }
 
     /// Keeps that an interface was taken for a network.
@@ -222,9 +233,14 @@ impl Hearing {
         writer.flush()
     }
 
-    /// Writes which interface was taken for which network, the links without a frame, the foreign frames, and the rows.
+    /// Writes which interface was taken for which network, the addresses if they were given, the links without a frame,
+    /// the foreign frames, and the rows.
     pub fn write_summary<W: Write>(&self, writer: &mut W) -> io::Result<()> {
         self.write_taken(writer)?;
+        if let Some(own) = self.ways.addressing {
+            let own = Addresses(own);
+            writeln!(writer, "addresses: {own}")?;
+        }
         for id in self.tap.end_systems() {
             let Some(judge) = self.tap.judge_of(*id) else {
                 continue;

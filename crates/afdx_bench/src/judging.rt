@@ -1,4 +1,5 @@
 //! The command `judge`.
+use crate::addresses::addressing_of;
 use crate::files::{buffered, create, open, open_given, written};
 use crate::findings::NoCapture;
 use crate::hearing::{Hearing, Ways};
@@ -87,6 +88,7 @@ fn ways_of(case: &Case) -> Ways {
     Ways {
         foreign: case.foreign,
         by_byte: case.by_byte,
+        addressing: addressing_of(case),
         every: case
             .every
             .map(|seconds| SECOND.saturating_mul(seconds as u128)),

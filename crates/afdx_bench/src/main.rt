@@ -5,6 +5,7 @@
 ghost use Rattle.std.specs.Prelude.{◌≤◌};
 ghost use Rattle.bench_words.specs.Status.{IsInRange};
 
+mod addresses;
 mod checking;
 mod compiling;
 mod files;

@@ -1,4 +1,5 @@
 //! The page of a recording: one HTML file, which loads nothing.
+use crate::addresses::{Addresses, addressing_of};
 use crate::findings::{FindingLine, network_name};
 use crate::hearing::Hearing;
 use crate::link_row::LinkRow;
@@ -123,6 +124,10 @@ fn write_options<W: Write>(writer: &mut W, case: &Case) -> io::Result<()> {
         if is_given {
             write!(writer, ", {name}")?;
         }
+    }
+    if let Some(own) = addressing_of(case) {
+        let own = Addresses(own);
+        write!(writer, ", {own}")?;
     }
     writer.write_all(b"\n")
 }

@@ -1,4 +1,5 @@
 //! The document of a judged recording.
+use crate::addresses::{addressing_of, addressing_row};
 use crate::findings::{kind_name, network_name};
 use crate::foreign::Foreign;
 use crate::hearing::Hearing;
@@ -49,6 +50,7 @@ pub fn recorded<'a>(
         whole,
         captures,
         networks,
+        addressing: addressing_row(alloc, addressing_of(case))?,
         first_ns: hearing.times.map(|(first, _)| first),
         last_ns: hearing.times.map(|(_, last)| last),
         kinds: kinds_of(alloc, hearing)?,

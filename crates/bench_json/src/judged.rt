@@ -3,8 +3,8 @@ use crate::{LAYOUT, json_of};
 use serde::Serialize;
 use std::alloc::{AllocError, Global};
 
-/// A recording: its verdict, the captures, which interface was taken for which network, the first findings of each
-/// kind, how many there are, foreign frames, and the end systems.
+/// A recording: its verdict, the captures, which interface was taken for which network, addresses that aren't the
+/// profile's, the first findings of each kind, how many there are, foreign frames, and the end systems.
 #[derive(Drop, Serialize)]
 pub struct Judged<'a> {
     pub verdict: String,
@@ -12,6 +12,7 @@ pub struct Judged<'a> {
     pub whole: bool,
     pub captures: Vec<CaptureRow<'a>>,
     pub networks: Vec<TakenRow>,
+    pub addressing: Option<AddressingRow>,
     pub first_ns: Option<u128>,
     pub last_ns: Option<u128>,
     pub kinds: Vec<KindRow>,
@@ -38,6 +39,14 @@ pub struct TakenRow {
     pub network: &'static str,
     pub capture: u8,
     pub interface: u32,
+}
+
+#[derive(Drop, Serialize)]
+pub struct AddressingRow {
+    // the constant field of destination MAC addresses
+    pub constant: String,
+    pub interface_a: u8,
+    pub interface_b: u8,
 }
 
 #[derive(Clone, Copy, Serialize)]

@@ -9,8 +9,8 @@ mod reported;
 pub use checked::check_document;
 pub use explained::explain_document;
 pub use judged::{
-    CaptureRow, FindingRow, ForeignRow, Judged, JudgedLink, JudgedPlan, KindRow, TakenRow,
-    judge_document,
+    AddressingRow, CaptureRow, FindingRow, ForeignRow, Judged, JudgedLink, JudgedPlan, KindRow,
+    TakenRow, judge_document,
 };
 pub use reported::{ReportedPlan, hundredths, report_document, reported_plan};
 use serde::Serialize;

@@ -1,5 +1,5 @@
 -- The ranges of a command line, the messages about its words, and the exit statuses of the program.
-use Rattle.std.specs.Prelude.{ℕ, nat_eq, if◌then◌else◌, ◌≤◌, ⊤, ◌≡◌, ◌⊎◌}
+use Rattle.std.specs.Prelude.{ℕ, nat_eq, if◌then◌else◌, ◌≤◌, ⊤, ◌≡◌, ◌≢◌, ◌⊎◌, List, Option, IfSome, slice_index}
 use Rattle.bench_words.specs.declared.status.Failure.{Failure}
 use Rattle.bench_words.specs.declared.status.Failure.TheVariants.{Config, Run, Short, Turns}
 use Rattle.bench_words.specs.declared.status.End.{End}
@@ -33,13 +33,17 @@ exit_status FileWrong = 2
 exit_status WordsRefused = 2
 exit_status (Failed failure) = failure_status failure
 
+-- the interface bytes of both networks, if they are given, are different
+abbrev pub AreApart : Option (List ℕ) → Type 0
+AreApart given = IfSome given (λ bytes. slice_index bytes 0 ≢ slice_index bytes 1)
+
 -- the numbers of a storm, of a report, of a schedule and of a judgment lie in their ranges
 abbrev pub IsInRange : Words → Type 0
 IsInRange (Storm config messages turns) =
     ((1 ≤ messages) × (messages ≤ 65535)) × ((1 ≤ turns) × (turns ≤ 1000000000))
 IsInRange (Report asked) = asked.lateness ≤ 1000000
 IsInRange (Schedule config traffic seconds seed) = (1 ≤ seconds) × (seconds ≤ 999)
-IsInRange (Judge case) = (case.jitter ≤ 1000000) × (case.skew ≤ 1000000)
+IsInRange (Judge case) = (case.jitter ≤ 1000000) × (case.skew ≤ 1000000) × AreApart case.interfaces
 IsInRange _ = ⊤
 
 -- the end of the program if the words name no command: a message was written or standard output failed for help and the

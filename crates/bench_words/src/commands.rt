@@ -82,7 +82,7 @@ enum WordKind {
 struct Word(&'static str, &'static str, WordKind, &'static str);
 
 /// The words after that of the plan, in the order of the help.
-const WORDS: [Word; 31] = [
+const WORDS: [Word; 33] = [
     Word("run", "script", WordKind::Needed, "The file of the script"),
     Word(
         "run",
@@ -200,6 +200,18 @@ const WORDS: [Word; 31] = [
         "profile",
         WordKind::Profile,
         "Chooses the rules for frames: arinc for other makers' equipment; own, if left out, for frames of this library",
+    ),
+    Word(
+        "judge",
+        "constant",
+        WordKind::Text("hex"),
+        "The constant field of destination MAC addresses, with --profile arinc: 03000000 if left out",
+    ),
+    Word(
+        "judge",
+        "interfaces",
+        WordKind::Text("a,b"),
+        "The interface bytes of networks A and B, with --profile arinc: 20,40 if left out",
     ),
     Word(
         "judge",

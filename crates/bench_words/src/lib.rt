@@ -1,6 +1,7 @@
 //! The words of the program's command line, reading its files, its texts on a plan, and the ends of its commands.
 #![tactic(auto)]
 
+mod addresses;
 mod commands;
 mod halting;
 mod reading;

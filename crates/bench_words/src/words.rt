@@ -3,6 +3,7 @@ ghost use Rattle.std.specs.Prelude.{◌≤◌, IfOk};
 ghost use Rattle.bench_words.specs.Status.{IsInRange, EndsWords};
 ghost use Rattle.clap.specs.Values.{kind_of};
 
+use crate::addresses::{constant, interfaces};
 use crate::commands::command;
 use crate::status::{End, Failure};
 use clap::error::ErrorKind;
@@ -111,6 +112,10 @@ pub struct Case {
     pub fcs: bool,
     /// Frames are judged by ARINC 664 Part 7 alone.
     pub arinc: bool,
+    /// The constant field of destination MAC addresses, if it isn't the profile's.
+    pub constant: Option<[u8; 4]>,
+    /// The interface bytes of networks A and B, if they aren't the profile's.
+    pub interfaces: Option<[u8; 2]>,
     /// The file of a page.
     pub html: Option<String>,
     /// A document is wanted.
@@ -142,7 +147,7 @@ pub fn read_words<R: Env + AllocGlobal>(rt: &R) -> Result<Words, Error>
 }
 
 /// Returns the error of a word that clap doesn't read.
-fn refusal(alloc: Global, text: &str) -> Result<Error, AllocError> {
+pub(crate) fn refusal(alloc: Global, text: &str) -> Result<Error, AllocError> {
     let mut program = command(alloc)?;
     program.error(ErrorKind::InvalidValue, text)
 }
@@ -231,6 +236,11 @@ fn judge_words(alloc: Global, matches: &ArgMatches<'_>, config: String) -> Resul
         Some(_) => Some(count(alloc, matches, "every", "", 1, SECONDS_LIMIT)?),
         None => None,
     };
+    let (constant, interfaces) = (constant(alloc, matches)?, interfaces(alloc, matches)?);
+    let arinc = matches.get_str("profile") == Some("arinc");
+    if !arinc && (constant.is_some() || interfaces.is_some()) {
+        return Err(refusal(alloc, "--constant and --interfaces need --profile arinc")?);
+    }
     Ok(Words::Judge(Case {
         config,
         with: paths(alloc, matches, "with")?,
@@ -240,7 +250,9 @@ fn judge_words(alloc: Global, matches: &ArgMatches<'_>, config: String) -> Resul
         skew: count(alloc, matches, "skew", "10000", 0, MICROS_LIMIT)?,
         late: matches.get_flag("late"),
         fcs: matches.get_flag("fcs"),
-        arinc: matches.get_str("profile") == Some("arinc"),
+        arinc,
+        constant,
+        interfaces,
         html: given(alloc, matches, "html")?,
         json: matches.get_flag("json"),
         all_links: matches.get_flag("all-links"),

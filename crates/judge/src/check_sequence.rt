@@ -27,7 +27,7 @@ fn with_byte(remainder: u32, byte: u8) -> u32
 
 /// Returns the check sequence of these bytes.
 #[tactic(auto, unfolding(crate::specs::CheckSequence::check_sequence))]
-pub(crate) fn check_sequence(bytes: &[u8]) -> u32
+pub fn check_sequence(bytes: &[u8]) -> u32
     ensures { result ≡ check_sequence bytes.now }
 {
     let mut remainder = 0xffff_ffffu32;

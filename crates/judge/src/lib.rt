@@ -1,7 +1,7 @@
 //! Judges a recording of an end system's frames by its plan: each deviation is a finding.
 #![tactic(auto)]
 
-mod check_sequence;
+pub mod check_sequence;
 mod fields;
 mod figures;
 mod finding;

@@ -1,4 +1,6 @@
-//! A law of the judges of several end systems. Its function is empty: the contract is the law.
+//! Laws of the judges of several end systems, and of a maker's addressing. Their functions are empty: the contract is
+//! the law.
+ghost use Rattle.tap.specs.Addresses.{InterfaceTold, OneToOne, OwnAsProfile};
 ghost use Rattle.tap.specs.Apart.{JudgedApart, Needed, Worked};
 
 /// On a tap that several end systems send on, what is found at the packets of each, and by its judge at the end, is
@@ -9,4 +11,17 @@ pub fn judged_apart()
     ensures apart { JudgedApart }
     ensures worked { Worked }
     ensures needed { Needed }
+{}
+
+/// If its interface bytes are different, an addressing rewrites a frame to one with the profile's constant field, or a
+/// network's interface byte, exactly if the frame had its own there; other bytes stay.
+pub fn own_as_profile()
+    ensures kept { OwnAsProfile }
+{}
+
+/// No two frames become one, so no wrong frame becomes a right one; and each interface byte can be told as it was.
+#[tactic(auto, using(crate::proofs::Exchange::one_to_one, crate::proofs::Exchange::interface_told))]
+pub fn one_to_one()
+    ensures apart { OneToOne }
+    ensures told { InterfaceTold }
 {}
