@@ -13,7 +13,7 @@ extern "C" {
 /** What a recording may deviate by, and how it was made. {.skew = 10000} is what afdx_bench judge takes without
    options. */
 typedef struct {
-    uint64_t jitter; /**< a frame may be recorded this many microseconds after its release */
+    uint64_t jitter; /**< how much the time from release to recording may vary, in microseconds */
     uint64_t skew;   /**< a frame and its twin are at most this many microseconds apart */
     uint8_t late;    /**< other than 0: the recording began after the end system */
     uint8_t fcs;     /**< other than 0: frames end with their check sequence, which is tested and left out */

@@ -24,7 +24,7 @@ const THREE: Plan = (
     ],
 );
 
-const SENDINGS: [Sending; 3] = [
+static SENDINGS: [Sending; 3] = [
     (SIX, 6, &[7], 1, [&[1], &[1]]),
     (SIX, 2, &[7; 1_472], 2, [&[1], &[1]]),
     (THREE, 3, &[7], 1, [&[1, 3], &[2, 3]]),

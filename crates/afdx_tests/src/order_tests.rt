@@ -50,7 +50,7 @@ fn make_network(rt: &impl Host, places: &Arc<AtomicU64, Global>) -> Counting
 }
 
 // A link on both networks, one on A, one on both and one on B, with a port on each.
-const FOUR: Plan = (
+static FOUR: Plan = (
     &[
         (1, "both", 1, 1_518, 1, 4),
         (2, "a", 1, 1_518, 1, 4),

@@ -8,7 +8,7 @@ use std::sync::atomic::{AtomicU64, Ordering};
 use std::thread;
 
 // One link of two sub-VLs with a port on each.
-const TWO_SUB_VLS: Plan = (
+static TWO_SUB_VLS: Plan = (
     &[(1, "both", 1, 64, 2, 2)],
     &[(20, 1, 0, 1, 8_192), (21, 1, 1, 1, 8_192)],
 );
@@ -17,7 +17,7 @@ const TWO_SUB_VLS: Plan = (
 type Paused = (usize, &'static [Step<'static>], Option<Refusal>);
 
 // The messages that the port of sub-VL 0 sends, and the steps after that. The steps have the port of sub-VL 1 alone.
-const PAUSES: &[(&[Paused], &[Step])] = &[
+static PAUSES: [(&[Paused], &[Step]); 4] = [
     // Another sub-VL releases in the pause of a port.
     (
         &[(
@@ -78,7 +78,7 @@ fn send_paused(
 
 #[test]
 fn a_port_pauses_only_where_it_accepts_and_its_message_goes_out_after_that(rt: HostRuntime) {
-    for &(sends, after) in PAUSES {
+    for &(sends, after) in &PAUSES {
         let mut rig = open(&rt, TWO_SUB_VLS, (NEVER, NEVER));
         let mut port = rig.take_first(&rt);
         for paused in sends {
@@ -118,7 +118,7 @@ fn send_held(rt: &impl Host, port: &mut TxPort, stage: &AtomicU64) -> bool {
 }
 
 // The rig's steps while the port is held.
-const MEANWHILE: &[Step] = &[
+static MEANWHILE: [Step; 3] = [
     Sends(0, &[2]),
     Polls(0, Some((&[(1, 1, 0)], BOTH))),
     Polls(1_000, Some((&[], BOTH))),
@@ -135,7 +135,7 @@ fn a_port_held_in_its_pause_holds_back_its_own_sub_vl_alone(rt: HostRuntime) {
         || send_held(&rt, &mut port, &stage),
         || {
             let is_held = reaches(&stage, 1);
-            rig.act_all(&rt, MEANWHILE);
+            rig.act_all(&rt, &MEANWHILE);
             stage.store(2, Ordering::SeqCst);
             is_held
         },

@@ -17,7 +17,7 @@ const ON_A_AND_ON_BOTH: Plan = (
     &[(10, 1, 0, 1, 8_192), (11, 2, 0, 1, 8_192)],
 );
 
-const PLAYS: &[Play] = &[
+static PLAYS: [Play; 5] = [
     // A message is counted once its one frame is sent.
     (
         DEMO,
@@ -112,7 +112,7 @@ fn play(rt: &impl Host, &(plan, fails, steps, polls): &Play) {
 
 #[test]
 fn frames_are_counted_once_a_network_took_them_and_a_lost_one_is_never_done(rt: HostRuntime) {
-    for one in PLAYS {
+    for one in &PLAYS {
         play(&rt, one);
     }
 }

@@ -75,7 +75,7 @@ fn assert_ended(
 /// the main thread, the number of its polls.
 type Held = (Plan, Until, (u16, u64), bool, u64, Option<u64>);
 
-const HELD: [Held; 9] = [
+static HELD: [Held; 9] = [
     // all workers run at once
     (SMALL, Until::Entered(4), (100, 1_000), true, 400, None),
     // a gate that refuses ends its worker and no other
@@ -168,7 +168,7 @@ fn threads_that_a_gate_holds_try_as_often_as_they_may_and_polls_go_on(rt: HostRu
 /// A plan, the number of messages of each port, the hands at which A and B fail, and the end of the storm.
 type Failing = (Plan, u16, (u64, u64), Result<Networks, StormFault>);
 
-const FAILING: [Failing; 9] = [
+static FAILING: [Failing; 9] = [
     // a network that fails in the middle is abandoned
     (SMALL, 100, (200, NEVER), Ok((199, 400, false))),
     (SMALL, 100, (NEVER, 400), Ok((400, 399, false))),

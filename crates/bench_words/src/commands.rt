@@ -81,8 +81,9 @@ enum WordKind {
 /// A word: the name of its command, its own name, its kind, and its meaning.
 struct Word(&'static str, &'static str, WordKind, &'static str);
 
-/// The words after that of the plan, in the order of the help.
-const WORDS: [Word; 33] = [
+/// The words after that of the plan, in the order of the help. (A constant with texts inside its kinds would be built,
+/// and proved, anew in each function that reads it.)
+static WORDS: [Word; 33] = [
     Word("run", "script", WordKind::Needed, "The file of the script"),
     Word(
         "run",
@@ -102,7 +103,7 @@ const WORDS: [Word; 33] = [
         "report",
         "lateness",
         WordKind::Upto("micros", MICROS_LIMIT),
-        "The longest time from the end of a BAG to the next poll, in microseconds: 0 if left out",
+        "The worst delay of polls that come a BAG after one another, in microseconds: 0 if left out",
     ),
     Word(
         "report",
@@ -175,7 +176,7 @@ const WORDS: [Word; 33] = [
         "judge",
         "jitter",
         WordKind::Upto("micros", MICROS_LIMIT),
-        "The longest time from a frame's release to its recorded time, in microseconds: 0 if left out",
+        "How much the time from a frame's release to its recording may vary, in microseconds: 0 if left out",
     ),
     Word(
         "judge",

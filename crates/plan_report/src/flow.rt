@@ -11,7 +11,7 @@ const ROW: u64 = 16;
 const HEADS: u64 = 34;
 
 /// The heads of the columns of the picture, and their places in percent of its width.
-const COLUMNS: [(u64, &str); 5] = [
+static COLUMNS: [(u64, &str); 5] = [
     (PARTITION, "partition"),
     (PORT, "port"),
     (SUB_VL, "sub-VL"),
@@ -30,7 +30,7 @@ const LINK: u64 = 71;
 const NETWORK: u64 = 92;
 
 /// The networks, and the quarters of the height at which they stand.
-const NETWORKS: [(Net, &str, u64); 2] = [(Net::A, "A", 1), (Net::B, "B", 3)];
+static NETWORKS: [(Net, &str, u64); 2] = [(Net::A, "A", 1), (Net::B, "B", 3)];
 
 /// Half the width of a label.
 const HALF: u64 = 5;
@@ -86,7 +86,7 @@ pub(crate) fn write_flow<W: Write>(writer: &mut W, config: &Config) -> io::Resul
         writer,
         "<h2>From partitions to networks</h2>\n<svg class=\"flow\" style=\"height:{height}px\">"
     )?;
-    for (column, text) in COLUMNS {
+    for &(column, text) in &COLUMNS {
         write_label(writer, Node(column, 10), text)?;
     }
     flow.write_links(writer)?;
@@ -95,7 +95,7 @@ pub(crate) fn write_flow<W: Write>(writer: &mut W, config: &Config) -> io::Resul
             write_label(writer, flow.partition(partition), partition)?;
         }
     }
-    for (_, name, part) in NETWORKS {
+    for &(_, name, part) in &NETWORKS {
         write_label(writer, flow.part(NETWORK, part, 4), name)?;
     }
     writer.write_all(b"</svg>\n")
@@ -142,7 +142,7 @@ impl Flow<'_> {
             let rows = self.count(link, None).max(1);
             let to = middle(LINK, first, rows);
             write_label(writer, to, link.id.0)?;
-            for (net, _, part) in NETWORKS {
+            for &(net, _, part) in &NETWORKS {
                 if carries(net, link.networks) {
                     write_edge(writer, class, to, self.part(NETWORK, part, 4))?;
                 }

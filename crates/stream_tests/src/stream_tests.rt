@@ -126,7 +126,7 @@ type Script = (
     usize,
 );
 
-const SCRIPTS: [Script; 2] = [
+static SCRIPTS: [Script; 2] = [
     // two messages, the first alone released, and an earlier time
     (
         "send 10 01\nsend 10 02\nat 18446744073709551615\nat 18446744073709551615\nat 5\n",
