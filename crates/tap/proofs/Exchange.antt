@@ -1,10 +1,10 @@
 -- The exchange of a frame's bytes, byte by byte.
-use Rattle.std.proofs.Common.{arith, ◌≡◌, ◌≢◌, ℕ, ◌≤◌, ◌<◌, List, [], ◌∷◌, length, length-set, refl, sym, ap, ◌∙◌, cond, Bool, true, false}
-use Rattle.std.specs.Prelude.{◌↔◌, nat_eq, nat_lt, slice_index, slice_set, if◌then◌else◌}
+use Rattle.std.proofs.Common.{arith, ◌≡◌, ◌≢◌, ℕ, ◌≤◌, ◌<◌, List, length, length-set, refl, sym, ap, ◌∙◌, Bool, true, false}
+use Rattle.std.specs.Prelude.{nat_eq, nat_lt, slice_index, slice_set, if◌then◌else◌}
 use Rattle.std.proofs.lemmas.List.{ext_get_or, get_or-set_other}
 use Rattle.std.proofs.lemmas.Grind.{get_or-set_at}
 use Rattle.tap.specs.declared.addressing.Addressing.{Addressing}
-use Rattle.tap.specs.Addresses.{exchanged, interface_as, interface_from, byte_as, with_byte, frame_as, constant_field, b_left, OneToOne, InterfaceTold, OwnAsProfile}
+use Rattle.tap.specs.Addresses.{exchanged, interface_as, interface_from, byte_as, frame_as, constant_field, b_left, OneToOne, InterfaceTold, OwnAsProfile}
 
 -- an exchange is undone by itself
 back : (one other byte : ℕ) → exchanged one other (exchanged one other byte) ≡ byte
