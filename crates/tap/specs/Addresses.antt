@@ -1,5 +1,5 @@
--- Frames whose constant field or interface bytes are a maker's own: which byte becomes which, so that they are judged as
--- frames of the profile.
+-- Frames whose constant field or interface bytes are a maker's own: which byte becomes which, so that they are judged
+-- as frames of the profile.
 use Rattle.std.specs.Prelude.{ℕ, ◌≡◌, ◌≢◌, ◌≤◌, ◌<◌, ◌↔◌, nat_eq, nat_lt, Bool, if◌then◌else◌, List, [], ◌∷◌, ◌++◌, length, slice_index, slice_set, Result, Ok, Err}
 use Rattle.byteorder.specs.Endian.{little_bytes}
 use Rattle.afdx_frame.specs.Frame.{interface_byte}
@@ -35,7 +35,7 @@ number_from own number = if nat_lt number 256 then interface_from own number els
 abbrev pub constant_field : List ℕ
 constant_field = 3 ∷ 0 ∷ 0 ∷ 0 ∷ []
 
--- a frame's byte at a place as the profile has it: the bytes of the constant field are exchanged, and the interface byte
+-- a frame's byte at a place as the profile has it: bytes of the constant field are exchanged, and the interface byte
 abbrev pub byte_as : Addressing → ℕ → ℕ → ℕ
 byte_as own k byte =
     if nat_lt k 4 then exchanged (slice_index own.constant k) (slice_index constant_field k) byte
