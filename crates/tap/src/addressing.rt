@@ -83,9 +83,9 @@ impl Addressing {
         frame[field::INTERFACE] = self.interface_as(frame[field::INTERFACE]);
     }
 
-    /// Writes a packet's bytes into a room as the profile has them. If they end with a check sequence, a right one makes
-    /// way for the new frame's. Bytes with a wrong one stay as they are, so that it is found. Fails only if memory runs
-    /// out.
+    /// Writes a packet's bytes into a room as the profile has them. If they end with a check sequence, a right one
+    /// makes way for the new frame's. Bytes with a wrong one stay as they are, so that it is found. Fails only if
+    /// memory runs out.
     #[tactic(auto, unfolding(crate::specs::Addresses::packet_as))]
     pub fn write(&self, has_check: bool, bytes: &[u8], room: &mut Vec<u8>) -> Result<(), AllocError>
         ensures { OnOk result (room.new.items ≡ packet_as self.now has_check bytes.now) }
