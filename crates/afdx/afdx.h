@@ -29,7 +29,7 @@
      docs/guide/c.md says.
    - No call is made from a signal handler or an interrupt, or in the forked child of a process with threads.
    - The stack has room: 4 KB for the library, and what rattle_alloc takes; AFDX_TEXT_STACK bytes for a call that reads
-     a text.
+     a text, and 20 KB for afdx_capture_lost.
    A call that takes a pointer to const for a handle changes neither the handle nor the end system or port in it.
    afdx_script_line, afdx_explain, afdx_memory and afdx_version_number take no handle, and may be called by any thread.
 
@@ -109,7 +109,8 @@ enum { AFDX_GREATEST_FRAME = 1514, AFDX_MOST_FRAMES = 64 };
 
 /** The bytes of stack that a thread needs to read the text of a plan from an untrusted source: afdx_open, afdx_explain,
    afdx_judge and afdx_judge_pair go as deep as the text nests. The worst text that a search found takes 2.3 MB; the text of a
-   valid plan takes less than 16 KB. All other calls take at most 4 KB (docs/guide/embedding.md). */
+   valid plan takes less than 16 KB. afdx_capture_lost takes at most 20 KB, and all other calls at most 4 KB
+   (docs/guide/embedding.md). */
 #define AFDX_TEXT_STACK 4194304
 
 /** Success of any call. */

@@ -79,8 +79,11 @@ static uint64_t now, total;
 static afdx_counts counts;
 static afdx_released released;
 static afdx_line line;
-/* The longest message of a script, and a pcap file of one empty packet. */
-static uint8_t text[7 + 2 * 8192] = "send 0 ", capture[40] = {0xd4, 0xc3, 0xb2, 0xa1, 2, 0, 4, 0, [20] = 1};
+/* The longest message of a script. */
+static uint8_t text[7 + 2 * 8192] = "send 0 ";
+/* A pcapng file: a section, an interface, and two packets without bytes, before each of which three others were lost. */
+#define PACKET 6, 48, 0, 0, 0, 0, 0, 0x00080004, 3, 0, 0, 48
+static const uint32_t capture[] = {0x0a0d0d0a, 28, 0x1a2b3c4d, 1, UINT32_MAX, UINT32_MAX, 28, 1, 20, 1, 0, 20, PACKET, PACKET};
 
 static void want(bool holds, const char *what) {
     if (holds) return;
@@ -178,7 +181,7 @@ static void nothing(void) { used = 0; }
     CASE(free_drained, gathered, afdx_free(&it), AFDX_OK) \
     CASE(free_port, one, afdx_free_port(&ports[0]), AFDX_OK) \
     CASE(script_line, nothing, afdx_script_line(text, sizeof text, &line, message, sizeof message), AFDX_OK) \
-    CASE(capture_lost, nothing, afdx_capture_lost(capture, sizeof capture, &total), AFDX_OK)
+    CASE(capture_lost, nothing, afdx_capture_lost((const uint8_t *)capture, sizeof capture, &total), AFDX_OK)
 
 #define DEFINED(name, before, call, wanted) \
     static __attribute__((noinline)) void case_##name(void) { answer = call; }
