@@ -136,6 +136,7 @@ static void drained(void) {
     gathered();
     for (uint64_t k = 0; k < 6; k++) polls(1000 * k);
 }
+static void orphan(void) { begin(1, 0), want(afdx_free(&it) == AFDX_OK, "free"); }
 static void nothing(void) { used = 0; }
 
 /* Each case: its name, the state before it, the call, and its answer. The last port of a plan, and its last link, are those
@@ -180,6 +181,7 @@ static void nothing(void) { used = 0; }
     CASE(free, all, afdx_free(&it), AFDX_OK) \
     CASE(free_drained, gathered, afdx_free(&it), AFDX_OK) \
     CASE(free_port, one, afdx_free_port(&ports[0]), AFDX_OK) \
+    CASE(free_port_last, orphan, afdx_free_port(&ports[0]), AFDX_OK) \
     CASE(script_line, nothing, afdx_script_line(text, sizeof text, &line, message, sizeof message), AFDX_OK) \
     CASE(capture_lost, nothing, afdx_capture_lost((const uint8_t *)capture, sizeof capture, &total), AFDX_OK)
 
