@@ -62,14 +62,15 @@ pub fn addressing_row(
     alloc: Global,
     given: Option<Addressing>,
 ) -> Result<Option<AddressingRow>, AllocError> {
-    let Some(Addressing { constant, a, b }) = given else {
+    let Some(own) = given else {
         return Ok(None);
     };
-    let constant = Constant(constant);
+    let bytes = own.constant;
+    let constant = Constant(bytes);
     Ok(Some(AddressingRow {
         constant: format!(in alloc; "{constant}")?,
-        interface_a: a,
-        interface_b: b,
+        interface_a: own.a,
+        interface_b: own.b,
     }))
 }
 
