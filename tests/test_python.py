@@ -190,7 +190,7 @@ def judging() -> None:
     for case in calls.cases(4):
         found, captured = [], []
         try:
-            found = afdx.judge(case.plan, *case.captures, **case.options._asdict())
+            found = afdx.judge(case.plan, *case.captures, **case.words())
         except afdx.BadCapture as error:
             found, captured = error.findings, str(error).splitlines()[1:]
         check([f"{it}\n" for it in found] == [it.line() for it in case.found], case.name)

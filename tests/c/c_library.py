@@ -184,7 +184,7 @@ def finding_lines(case, room, program):
         with open(f"{room}/{name}", "wb") as file:
             file.write(data)
     plan, *captures = files
-    return ran([program, plan, *(str(int(it)) for it in case.options), *captures], room)
+    return ran([program, plan, *(str(int(it)) for it in case.words().values()), *captures], room)
 
 
 def is_found(case, room, program):

@@ -22,6 +22,10 @@ class Case(NamedTuple):
     found: list[verdict.Finding]
     captured: list[str]
 
+    def words(self) -> dict[str, int]:
+        """The options that the calls have, in their order: other addresses are the command's alone."""
+        return {name: it for name, it in self.options._asdict().items() if name not in ("constant", "interfaces")}
+
 
 def case_of(name: str, plan: str, captures: list[bytes], options: verdict.Options) -> Case:
     """A case with what the model says of it."""
