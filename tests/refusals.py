@@ -1,14 +1,13 @@
 #!/usr/bin/env python3
-"""Refuses requests for memory of the built programs, and writes of the program or its standard output.
+"""Refuses requests for memory of the built program, and its writes or its standard output.
 
     python3 tests/refusals.py
 
-It runs what `rt ci` has built, the programs `probes`, which has a case for each call that may want memory, and
-`afdx_bench` as each compiler makes them, with `tests/refuse.c` preloaded: a run for each request for memory or for a
-thread, which is refused, until a run makes fewer requests. Each run has to end as is promised, with no signal. Likewise
-each write of the program fails once, and the program may try no other after it. Each run has to free all its memory, and
-for 10,000 messages more it makes few requests but one for each. The last line is 'N passed, M failed', and the exit status
-0 exactly if nothing failed.
+It runs what `rt ci` has built, the program `afdx_bench` as each compiler makes it, with `tests/refuse.c` preloaded: a
+run for each request for memory or for a thread, which is refused, until a run makes fewer requests. Each run has to end
+as is promised, with no signal. Likewise each write of the program fails once, and the program may try no other after it.
+Each run has to free all its memory, and for 10,000 messages more it makes few requests but one for each. The last line
+is 'N passed, M failed', and the exit status 0 exactly if nothing failed.
 """
 import errno
 import os
@@ -22,7 +21,7 @@ from itertools import pairwise
 
 # (no compiled copy is left beside the scripts)
 sys.dont_write_bytecode = True
-from refusals_wanted import CASES, CLOSED, COMMANDS, FILES, WRITTEN
+from refusals_wanted import CLOSED, COMMANDS, FILES, WRITTEN
 from trying import ROOT, Tries, built, compiler, started
 
 # How many runs are begun together, and after how many requests something is wrong.
@@ -154,10 +153,9 @@ def main():
     tries = Tries()
     with tempfile.TemporaryDirectory(prefix="refusals-") as room:
         bench = Bench(room)
-        for name, cases in (("probes", CASES), ("afdx_bench", COMMANDS)):
-            for build, program in built(name).items():
-                for case in cases:
-                    tries.attempt(f"{case.name} by {build}", lambda: tried_case(bench, program, case))
+        for build, program in built("afdx_bench").items():
+            for case in COMMANDS:
+                tries.attempt(f"{case.name} by {build}", lambda: tried_case(bench, program, case))
         for build, program in built("afdx_bench").items():
             tries.attempt(f"10,000 messages more by {build}", lambda: tried_growth(bench, program))
             for words in CLOSED:

@@ -1,8 +1,8 @@
-"""What runs of the built programs may come to when requests for memory are refused: each way to end, by its name."""
+"""What runs of the built program may come to when requests for memory are refused: each way to end, by its name."""
 import sys
 import tomllib
 
-from trying import DEMO, HELP, ONE_FRAME, REPORT, ROOT, SCRIPT, WRONG, text_of, totals
+from trying import DEMO, HELP, ONE_FRAME, REPORT, ROOT, SCRIPT, WRONG, totals
 
 sys.path += [f"{ROOT}/tests/run", f"{ROOT}/tests/report"]
 import expected
@@ -26,12 +26,6 @@ FILES = {
 }
 
 
-def beginnings(text):
-    """The text's beginnings of whole lines, the empty one and the whole among them."""
-    lines = text.splitlines(keepends=True)
-    return ["".join(lines[:count]) for count in range(len(lines) + 1)]
-
-
 class Case:
     """Runs of a program with some words, in which `many` requests are refused; 0: all from the first one on.
     `outputs` has what a run may write, by the name of the way in which it ends, and `early` the ways of runs
@@ -53,77 +47,6 @@ class Case:
             if any(ran.ended(self.status, out, self.err) for out in outputs):
                 return name if ran.is_refused or name == "answered" else None
         return None
-
-
-# What each case of the program `probes` prints when memory is ample: its stored run.
-PARTS = [part.partition("\n") for part in text_of("crates/probes/stdout").split("== ")[1:]]
-STORED = {name: text for name, _, text in PARTS}
-# How Rust prints the demonstration plan.
-DEMO_PLAN = (
-    "Config { end_system: 1, links: [LinkPlan { id: VlId(1), bag: Ms1, lmax: Lmax { size: 1518 }, sub_vls: 1, capacity: 2, "
-    "networks: Both }], ports: [PortPlan { id: PortId(10), vl: VlId(1), sub: 0, partition: 1, kind: Queuing, source: 1000, "
-    "destination: 2000, max: 8192, unicast: None, checksum: Omitted }] }"
-)
-# Memory was refused to what a case makes before its call.
-UNPREPARED = "no memory before the call\n"
-BEFORE = ("before the call", lambda ran: ran.ended(1, "", UNPREPARED))
-
-
-def call(name):
-    """A case whose call is refused, after any of its lines, and which is then run again."""
-    begins = beginnings(STORED[name])[:-1]
-    outputs = {"answered": [STORED[name]], "refused": [begin + "refused\n" + STORED[name] for begin in begins]}
-    return Case(name, [name], outputs, ["refused"], [BEFORE])
-
-
-def shown(case):
-    """The case, in which each refusal shows: what follows its call requests no memory."""
-    plain = case.way
-    case.way = lambda ran: None if ran.is_refused and plain(ran) == "answered" else plain(ran)
-    return case
-
-
-def handed(a, b):
-    """What is printed of two polls in which these hands of A and B fail, counted from 1, and then of the refusal."""
-    text = "Ok(())\n" * 2
-    for hand in (1, 2):
-        up = [str(hand < first).lower() for first in (a, b)]
-        ends = f"released {int('true' in up)}, Standing {{ a: {up[0]}, b: {up[1]} }}"
-        text += f"poll {1000 * (hand - 1)}: {'BothDown' if a < hand and b < hand else ends}\n"
-    return f"{text}frames {(a - 1, b - 1)}, failures {(int(a < 3), int(b < 3))}\nrefused\n"
-
-
-def opening(many):
-    """An emitter over networks in memory, of which A fails at its second hand, and B never, unless memory is refused. It is
-    opened with what `open_tx` returned if that was refused, and all is done again if a network failed for memory."""
-    text, b_down = STORED["open_tx"], [handed(2, k) for k in (1, 2)]
-    note = f"refused OpenFault, {DEMO_PLAN}\n"
-    outputs = {"answered": [text], "refused by open_tx": [note + text]}
-    if many == 1:
-        outputs |= {"A went down": [handed(1, 3) + text], "B went down": [down + text for down in b_down]}
-        return Case("open_tx", ["open_tx"], outputs, [*outputs][1:], [BEFORE])
-    outputs |= {"both went down": [handed(1, k) + text for k in (1, 2)]}
-    twice = ("refused by open_tx twice", lambda ran: ran.ended(1, note, "refused OpenFault\n"))
-    again = ("before the second call", lambda ran: any(ran.ended(1, down, UNPREPARED) for down in b_down))
-    return Case("open_tx", ["open_tx"], outputs, [*outputs][1:] + [twice[0], again[0]], [BEFORE, twice, again], many=many)
-
-
-def quiet():
-    """A case in which nothing may be refused once it has begun to print."""
-    ends = [BEFORE, ("refused by open_tx", lambda ran: ran.ended(1, "", "refused OpenFault\n"))]
-    case = Case("quiet", ["quiet"], {"answered": [STORED["quiet"]]}, [way for way, _ in ends], ends)
-    plain = case.way
-    case.way = lambda ran: None if ran.is_refused and ran.out else plain(ran)
-    return case
-
-
-CASES = [
-    shown(call("open_board")),
-    shown(call("make")),
-    opening(1),
-    opening(2),
-    quiet(),
-]
 
 
 def command(words, text, given=b"", others=None, many=1, status=0, err=""):
