@@ -139,10 +139,12 @@ if command -v python3 >/dev/null; then
 fi
 mode=755 into bin crates/afdx_bench/out/afdx_bench "$room/afdx_play"
 into share/man/man1 "$room/afdx_bench.1" "$room/afdx_play.1"
-into share/bash-completion/completions install/completions/afdx_bench.bash
-mv "$prefix/share/bash-completion/completions/afdx_bench.bash" "$prefix/share/bash-completion/completions/afdx_bench"
-into share/zsh/site-functions install/completions/_afdx_bench
-into share/fish/vendor_completions.d install/completions/afdx_bench.fish
+for name in afdx_bench afdx_play; do
+    into share/bash-completion/completions "install/completions/$name.bash"
+    mv "$prefix/share/bash-completion/completions/$name.bash" "$prefix/share/bash-completion/completions/$name"
+    into share/zsh/site-functions "install/completions/_$name"
+    into share/fish/vendor_completions.d "install/completions/$name.fish"
+done
 into share/afdx bindings/afdx.lua
 into share/afdx/rust bindings/rust/Cargo.toml bindings/rust/build.rs
 into share/afdx/rust/src bindings/rust/src/*.rs

@@ -32,6 +32,7 @@ lib/libafdx.a lib/libafdx_core.a lib/libafdx.so lib/libafdx.so.2 lib/pkgconfig/a
 lib/python/afdx/__init__.py lib/python/afdx/_findings.py lib/python/afdx/_library.py lib/python/afdx/errors.py
 lib/python/afdx/py.typed share/afdx/afdx-{VERSION}-py3-none-manylinux_2_14_x86_64.whl share/afdx/afdx.lua
 share/bash-completion/completions/afdx_bench share/zsh/site-functions/_afdx_bench
+share/bash-completion/completions/afdx_play share/zsh/site-functions/_afdx_play share/fish/vendor_completions.d/afdx_play.fish
 share/fish/vendor_completions.d/afdx_bench.fish share/man/man1/afdx_bench.1 share/man/man1/afdx_play.1 share/doc/afdx/LICENSE-MIT
 share/doc/afdx/LICENSE-APACHE share/doc/afdx/CHANGELOG.md share/doc/afdx/bench.md share/doc/afdx/c.md share/doc/afdx/plan.md
 share/doc/afdx/embedding.md share/doc/afdx/json.md share/doc/afdx/judge.md share/doc/afdx/laws.md share/doc/afdx/player.md share/doc/afdx/program.md share/doc/afdx/report.md share/doc/afdx/speed.md share/doc/afdx/table.md
@@ -395,6 +396,21 @@ def try_bench(tried):
     for shell, text in (("zsh", f"{share}/zsh/site-functions/_afdx_bench"), ("fish", f"{share}/fish/vendor_completions.d/afdx_bench.fish")):
         if not tried.lacks(shell, shutil.which(shell)):
             tried.show(f"{shell} reads its completions", tried.ran([shell, "-n", text]), "")
+    try_play_words(tried, share)
+
+
+def try_play_words(tried, share):
+    """The completions of the player have the words of its help, and no other."""
+    words = sorted({*re.findall(r"--[a-z][\w-]*", tried.ran([f"{tried.prefix}/bin/afdx_play", "--help"]).stdout)} | {"--help", "--version"})
+    bash, zsh = f"{share}/bash-completion/completions/afdx_play", f"{share}/zsh/site-functions/_afdx_play"
+    told = tried.ran(["bash", "-c", f'. "{bash}"; COMP_WORDS=(afdx_play -); COMP_CWORD=1; _afdx_play; printf "%s\\n" "${{COMPREPLY[@]}}" | sort'])
+    tried.show("bash completes afdx_play -", told, "".join(f"{it}\n" for it in words))
+    for shell, path, word in (("zsh", zsh, r"--[\w-]+"), ("fish", f"{share}/fish/vendor_completions.d/afdx_play.fish", r"-l ([\w-]+)")):
+        with open(path, encoding="utf-8") as file:
+            found = sorted(f"--{it.lstrip('-')}" for it in re.findall(word, file.read()))
+        tried.tries.show(f"{shell}'s words of afdx_play", [] if found == words else [f"{found} for {words}"])
+        if not tried.lacks(shell, shutil.which(shell)):
+            tried.show(f"{shell} reads its completions of afdx_play", tried.ran([shell, "-n", path]), "")
 
 
 def try_target(tried):

@@ -1,0 +1,13 @@
+# Completions of afdx_play for fish.
+complete -c afdx_play -l traffic -r -F -d 'Plays the script that afdx_bench schedule makes of these periods'
+complete -c afdx_play -l seconds -x -d 'The length of that script in seconds'
+complete -c afdx_play -l seed -x -d 'Chooses the times at which the ports begin to send'
+complete -c afdx_play -l as-written -d 'Polls at each at alone and with its time'
+complete -c afdx_play -l speed -x -d 'Plays so many times as fast'
+complete -c afdx_play -l repeat -x -d 'Plays the script so often; 0: until a signal'
+complete -c afdx_play -l capture -r -F -d 'Records what the interfaces took'
+complete -c afdx_play -l priority -d 'Locks memory and asks for SCHED_FIFO'
+complete -c afdx_play -l fault -x -a 'lose repeat swap number early flip down' -d 'Injects a fault into the frames'
+complete -c afdx_play -l help -d 'Print help'
+complete -c afdx_play -l version -d 'Print version'
+complete -c afdx_play -a '(command ls /sys/class/net 2>/dev/null)' -d 'Interface'
