@@ -4,6 +4,7 @@ import os
 import random
 import re
 import resource
+import statistics
 import subprocess
 import time
 
@@ -185,9 +186,17 @@ def every() -> list[str]:
     return [] if (done[0], at, rows) == (0, ["2.000000000", "4.000000000"], ["21", "41", "50"]) else [f"{done}"]
 
 
+def seconds_of(words: list[str], faults: list[str]) -> float:
+    """The processor time of a verdict in which nothing is found, in seconds."""
+    begun = resource.getrusage(resource.RUSAGE_CHILDREN).ru_utime
+    done = subprocess.run([trials.PROGRAM, "judge", *words], capture_output=True, check=False, timeout=60)
+    faults += [] if done.returncode == 0 and not done.stderr else [f"{done.returncode} {done.stdout[:300]}"]
+    return resource.getrusage(resource.RUSAGE_CHILDREN).ru_utime - begun
+
+
 def many() -> list[str]:
     """What is wrong with the time of 16 end systems of 64 links beside that of one, for as many packets: at most 1.3 times."""
-    rng, least, faults = random.Random(6), {}, []
+    rng, faults = random.Random(6), []
     head = trying.DEMO[: trying.DEMO.index("[[vl]]")]
     link = trying.DEMO[trying.DEMO.index("[[vl]]") : trying.DEMO.index("[[port]]")]
     port = trying.DEMO[trying.DEMO.index("[[port]]") :]
@@ -216,9 +225,10 @@ def many() -> list[str]:
         with open("none.pcap", "wb") as file:
             file.write(written([], PLAIN._replace(is_blocks=False), rng, "B"))
         files[count] = [names[0], f"many{count}.pcap", "none.pcap", *(word for name in names[1:] for word in ("--with", name))]
-    for count in (1, 16) * 7:
-        begun = resource.getrusage(resource.RUSAGE_CHILDREN).ru_utime
-        done = subprocess.run([trials.PROGRAM, "judge", *files[count]], capture_output=True, check=False, timeout=60)
-        least[count] = min(least.get(count, 9e9), resource.getrusage(resource.RUSAGE_CHILDREN).ru_utime - begun)
-        faults += [] if done.returncode == 0 and not done.stderr else [f"{done.returncode} {done.stdout[:300]}"]
-    return faults + ([] if least[16] <= 1.3 * least[1] else [f"{least}"])
+    # (a busy machine stretches single runs: the median of rounds in turn decides, and of three tries the first that holds)
+    for _ in range(3):
+        rounds = [{count: seconds_of(files[count], faults) for count in (1, 16)} for _ in range(7)]
+        ratio = statistics.median(it[16] / it[1] for it in rounds)
+        if ratio <= 1.3 or faults:
+            return faults
+    return [f"{ratio}: {rounds}"]
