@@ -1,45 +1,29 @@
 //! The words that give the addresses of a maker's frames.
-ghost use Rattle.std.specs.Prelude.{◌<◌, IfOk, IfSome};
+ghost use Rattle.std.specs.Prelude.{IfOk};
 ghost use Rattle.bench_words.specs.Status.{AreApart};
 
 use crate::words::refusal;
 use clap::{ArgMatches, Error};
+use hex::FromHex;
 use std::alloc::Global;
 
-/// Returns the value of a hexadecimal digit.
-fn digit(byte: u8) -> Option<u8>
-    ensures { IfSome result (λ value. value < 16) }
-{
-    match byte {
-        b'0'..=b'9' => Some(byte - b'0'),
-        b'a'..=b'f' => Some(byte - b'a' + 10),
-        b'A'..=b'F' => Some(byte - b'A' + 10),
-        _ => None,
-    }
+/// Returns the byte that two hexadecimal digits make.
+fn byte_of(digits: &str) -> Option<u8> {
+    let bytes = <[u8; 1] as FromHex>::from_hex(digits).ok()?;
+    Some(bytes[0])
 }
 
-/// Reads bytes from a word: two hexadecimal digits for each, and the mark, if there is one, between them. Returns
-/// whether the word is that.
-fn read_bytes(word: &[u8], mark: Option<u8>, bytes: &mut [u8]) -> bool {
-    let mut rest = word;
-    let mut before = None;
+/// Reads bytes from a word: two hexadecimal digits for each, with the mark between them. Returns whether the word is
+/// that.
+fn read_bytes(word: &str, mark: char, bytes: &mut [u8]) -> bool {
+    let mut parts = word.split(mark);
     for byte in bytes.iter_mut() {
-        if let (Some(wanted), [seen, more @ ..]) = (before, rest) {
-            if *seen != wanted {
-                return false;
-            }
-            rest = more;
-        }
-        let [high, low, more @ ..] = rest else {
+        let Some(read) = parts.next().and_then(byte_of) else {
             return false;
         };
-        let (Some(high), Some(low)) = (digit(*high), digit(*low)) else {
-            return false;
-        };
-        *byte = 16 * high + low;
-        (rest, before) = (more, mark);
+        *byte = read;
     }
-    rest.is_empty()
+    parts.next().is_none()
 }
 
 /// Returns the constant field that the words give, if they give one.
@@ -47,10 +31,11 @@ pub(crate) fn constant(alloc: Global, matches: &ArgMatches<'_>) -> Result<Option
     let Some(word) = matches.get_str("constant") else {
         return Ok(None);
     };
+    if let Ok(bytes) = <[u8; 4] as FromHex>::from_hex(word) {
+        return Ok(Some(bytes));
+    }
     let mut bytes = [0; 4];
-    if read_bytes(word.as_bytes(), None, &mut bytes)
-        || read_bytes(word.as_bytes(), Some(b':'), &mut bytes)
-    {
+    if read_bytes(word, ':', &mut bytes) {
         return Ok(Some(bytes));
     }
     let told = format!(in alloc;
@@ -67,7 +52,7 @@ pub(crate) fn interfaces(alloc: Global, matches: &ArgMatches<'_>) -> Result<Opti
         return Ok(None);
     };
     let mut bytes = [0; 2];
-    if read_bytes(word.as_bytes(), Some(b','), &mut bytes) && bytes[0] != bytes[1] {
+    if read_bytes(word, ',', &mut bytes) && bytes[0] != bytes[1] {
         return Ok(Some(bytes));
     }
     let told = format!(in alloc;
