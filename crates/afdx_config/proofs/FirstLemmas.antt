@@ -1,8 +1,8 @@
 -- The first finding has the fault of the least number, and so has the text.
-use Rattle.afdx_config.proofs.Names.{Bool, ◌≡◌, ◌≢◌, ℕ, ◌<◌, List, [], ◌∷◌, ◌++◌, true, false, Some, None, refl, ap, subst, ◌∙◌, arith, eq-eqb, list_any, same_Some, Result, Ok, Err, IfOk, IfErr, Members, map, nat_tests, fault_number, cells_of, ConfigFault, Memory, Plan, plan_of, shows, Reads, HasFault, IsLeastFault, IsPlanOf, plan_shows, whole, sym, PlanFinding, finding_of, findings, has, FirstIsAnswered, by_fault, number_of, plan_findings, value_findings, Holds, IsOrdered, fault_of, Kept, told_once}
-use Rattle.afdx_config.proofs.OnceLemmas.{any_once, no_once}
-use Rattle.afdx_config.proofs.OrderLemmas.{any_by_fault, are_ordered, no_finding, r_map}
-use Rattle.afdx_config.proofs.ShownLemmas.{faults_are_found, no_toml, none_has, plan_shown}
+use Rattle.afdx_config.proofs.Names.{Bool, ◌≡◌, ◌≢◌, ℕ, ◌<◌, List, [], ◌∷◌, ◌++◌, true, false, Some, None, refl, ap, subst, ◌∙◌, arith, eq-eqb, list_any, same_Some, Result, Ok, Err, IfOk, IfErr, Members, map, nat_tests, fault_number, cells_of, ConfigFault, Memory, Plan, plan_of, shows, Reads, HasFault, IsLeastFault, IsPlanOf, PlanFinding, finding_of, findings, has, FirstIsAnswered, by_fault, number_of, plan_findings, value_findings, Holds, IsOrdered, fault_of, Kept, told_once}
+use Rattle.afdx_config.proofs.OnceLemmas.{no_once}
+use Rattle.afdx_config.proofs.OrderLemmas.{are_ordered, no_finding, r_map}
+use Rattle.afdx_config.proofs.ShownLemmas.{faults_are_found, no_toml, none_has}
 use Rattle.afdx_config.proofs.SoundLemmas.{none}
 
 -- a fault that a document lacks, its text lacks: a text is one document

@@ -19,7 +19,7 @@ pub use Rattle.std.proofs.lemmas.Result.{on_ok_weaker, IfOk-weaker}
 pub use Rattle.std.proofs.lemmas.Simd.{map-map}
 pub use Rattle.std.proofs.lemmas.Slice.Eq.{bytes_eq-Decides}
 pub use Rattle.std.specs.Bool.{then_some}
-pub use Rattle.std.specs.List.{AllByRecursion, cons_option, filter_map, flat_map, list_any, position, position_from, position_or_len, fold, insert}
+pub use Rattle.std.specs.List.{AllByRecursion, cons_option, filter_map, flat_map, list_any, position, prefix_len, position_from, position_or_len, fold, insert}
 pub use Rattle.std.specs.Map.{keys_of}
 pub use Rattle.std.specs.Ordering.{is_eq, nat_cmp, ordering_then}
 pub use Rattle.std.specs.declared.cmp.Ordering.{Ordering}
@@ -65,7 +65,7 @@ pub use Rattle.afdx_plan.specs.declared.link_plan.Networks.TheVariants.{Both}
 pub use Rattle.afdx_plan.specs.declared.port_plan.Kind.TheVariants.{Sampling}
 pub use Rattle.afdx_plan.specs.declared.port_plan.UdpSum.TheVariants.{Omitted}
 pub use Rattle.afdx_plan.proofs.PlanLemmas.{Unbroken, valid}
-pub use Rattle.std.proofs.lemmas.List.Sums.{sum_by-cons, count_by-le-length, count_by_more_yes, count_by_more_no}
+pub use Rattle.std.proofs.lemmas.List.Sums.{sum_by-cons, count_by-le-length, prefix_len-le-length, count_by_more_yes, count_by_more_no}
 pub use Rattle.std.proofs.lemmas.Map.Lookups.{exact_bytes, exact_pairs, exact_unsigned}
 pub use Rattle.afdx_config.specs.declared.explaining.Explanation.{Explanation}
 pub use Rattle.std.specs.BTreeMap.{get, keys}

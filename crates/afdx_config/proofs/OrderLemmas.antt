@@ -1,5 +1,5 @@
 -- Findings in the order of the numbers of their faults.
-use Rattle.afdx_config.proofs.Names.{fold-append, common_steps, length-take, map-append, drop-map, take-append-le, take-take, fold, insert, length-append, ◌≡◌, ℕ, zero, suc, ◌+◌, ◌<◌, ◌≤◌, List, [], ◌∷◌, ◌++◌, length, take, drop, map, Bool, true, false, ◌||◌, cond, refl, ap, sym, ◌∙◌, arith, take_all, take-map, length-map, fault_number, AllByRecursion, list_any, nat_lt, nat_tests, or-false, PlanFinding, KeepsOne, finding_of, by_fault, lines_limit, number_of, put, IsOrdered, Written, Kept, count_by, sum_by-cons, count_by-le-length, nat_le}
+use Rattle.afdx_config.proofs.Names.{fold-append, common_steps, length-take, map-append, drop-map, take-append-le, take-take, fold, insert, length-append, ◌≡◌, ℕ, zero, suc, ◌+◌, ◌≤◌, List, [], ◌∷◌, ◌++◌, length, take, drop, map, Bool, true, false, ◌||◌, cond, refl, ap, sym, ◌∙◌, arith, take_all, take-map, length-map, fault_number, AllByRecursion, list_any, nat_lt, nat_tests, or-false, PlanFinding, KeepsOne, finding_of, by_fault, lines_limit, number_of, put, IsOrdered, Written, Kept, nat_le, prefix_len, prefix_len-le-length}
 
 -- what holds of each element of two lists holds of those of both
 pub r_append : {A : Type 0} (P : A → Type 0) (xs ys : List A) → AllByRecursion P xs → AllByRecursion P ys → AllByRecursion P (xs ++ ys)
@@ -8,9 +8,6 @@ r_append P xs ys one two = grind (arith, nat_tests, common_steps)
 pub r_map : {A : Type 0} (P Q : A → Type 0) (xs : List A) → ((x : A) → P x → Q x) → AllByRecursion P xs → AllByRecursion Q xs
 r_map P Q [] step each = tt
 r_map P Q (x ∷ xs) step each = (step x each.0, r_map P Q xs step each.1)
-
-r_take : {A : Type 0} (P : A → Type 0) (k : ℕ) (xs : List A) → AllByRecursion P xs → AllByRecursion P (take k xs)
-r_take P k xs each = grind (arith, nat_tests, common_steps)
 
 -- a finding put among others
 r_put : (P : PlanFinding → Type 0) (ys : List PlanFinding) (x : PlanFinding) → AllByRecursion P ys → P x → AllByRecursion P (put ys x)
@@ -55,11 +52,6 @@ fold_ordered ys (x ∷ xs) ordered = fold_ordered (put ys x) xs (put_ordered ys 
 pub are_ordered : (xs : List PlanFinding) → IsOrdered (by_fault xs)
 are_ordered xs = fold_ordered [] xs tt
 
-take_ordered : (k : ℕ) (ys : List PlanFinding) → IsOrdered ys → IsOrdered (take k ys)
-take_ordered zero ys ordered = tt
-take_ordered (suc k) [] ordered = tt
-take_ordered (suc k) (y ∷ ys) ordered = (r_take (λ z. number_of y ≤ number_of z) k ys ordered.0, take_ordered k ys ordered.1)
-
 -- no finding is lost
 pub no_finding : (xs : List PlanFinding) → by_fault xs ≡ [] → xs ≡ []
 no_finding [] is = refl
@@ -76,38 +68,14 @@ take_put (suc k) (y ∷ ys) x = here (nat_lt (number_of x) (number_of y)) (take_
     here true rest = ap (λ s. x ∷ s) (take-take k (suc k) (y ∷ ys) (omega arith))
     here false rest = ap (λ s. y ∷ s) rest
 
--- the index of a finding among the kept ones
-abbrev pub index_in : Kept → PlanFinding → ℕ
-index_in found x = count_by (λ w. nat_le (fault_number w.fault) (number_of x)) found.first.items
-
--- of findings with greater faults none is counted
-none_before : (first : List Written) (m : ℕ) → AllByRecursion (λ y. m < number_of y) (map finding_of first)
-    → count_by (λ w. nat_le (fault_number w.fault) m) first ≡ 0
-none_before [] m each = refl
-none_before (w ∷ ws) m each =
-    let step = sum_by-cons (λ (y : Written). cond {A = ℕ} (nat_le (fault_number y.fault) m) 1 0) w ws in
-    grind (arith, nat_tests, step, none_before ws m each.1)
+-- the index of a finding among those that are written
+abbrev pub index_in : List Written → PlanFinding → ℕ
+index_in first x = prefix_len (λ w. nat_le (fault_number w.fault) (number_of x)) first
 
 -- a finding goes after those of no greater faults
-placed : (first : List Written) (x : PlanFinding) → IsOrdered (map finding_of first)
-    → insert (map finding_of first) (count_by (λ w. nat_le (fault_number w.fault) (number_of x)) first) x ≡ put (map finding_of first) x
-placed [] x ordered = refl
-placed (w ∷ ws) x ordered = here (placed ws x ordered.1) (nat_le (fault_number w.fault) (number_of x)) refl
-  where
-    counted : ℕ
-    counted = count_by (λ w. nat_le (fault_number w.fault) (number_of x)) ws
-
-    here : insert (map finding_of ws) counted x ≡ put (map finding_of ws) x → (b : Bool) → nat_le (fault_number w.fault) (number_of x) ≡ b
-        → insert (map finding_of (w ∷ ws)) (count_by (λ w. nat_le (fault_number w.fault) (number_of x)) (w ∷ ws)) x ≡ put (map finding_of (w ∷ ws)) x
-    here rest true below =
-        let after : nat_lt (number_of x) (fault_number w.fault) ≡ false = grind (arith, nat_tests) in
-        let next : 1 + counted ≡ suc counted = omega arith in
-        rw (sum_by-cons _ w ws, below, after, next) (ap (λ ys. finding_of w ∷ ys) rest)
-    here rest false above =
-        let before : nat_lt (number_of x) (fault_number w.fault) ≡ true = grind (arith, nat_tests) in
-        let less : number_of x < fault_number w.fault = grind (arith, nat_tests) in
-        let none : counted ≡ 0 = none_before ws (number_of x) (r_map _ _ _ (λ y more. omega arith) ordered.0) in
-        rw (sum_by-cons _ w ws, above, before, none) refl
+placed : (first : List Written) (x : PlanFinding) → insert (map finding_of first) (index_in first x) x ≡ put (map finding_of first) x
+placed [] x = refl
+placed (w ∷ ws) x = let next : 1 + index_in ws x ≡ suc (index_in ws x) = omega arith in grind (arith, nat_tests, next, placed ws x)
 
 -- a finding that was written among others
 pub map_insert : (first : List Written) (i : ℕ) (x : Written)
@@ -116,25 +84,24 @@ map_insert first i x = sym (take-map finding_of lines_limit (insert first i x)) 
     ∙ rw (take-map finding_of i first, drop-map finding_of i first) refl)
 
 -- one finding, which is kept if it is among the first
-pub adds_put : (old new : Kept) (x : PlanFinding) (index : ℕ) → new.count ≡ old.count + 1 → index ≡ index_in old x
+pub adds_put : (old new : Kept) (x : PlanFinding) (index : ℕ) → new.count ≡ old.count + 1 → index ≡ index_in old.first.items x
     → map finding_of new.first.items ≡ take lines_limit (insert (map finding_of old.first.items) index x) → KeepsOne old new x
 adds_put old new x index counted at kept all holds =
     let size = holds.count_is in
     let more : length (all ++ x ∷ []) ≡ length all + 1 = length-append all (x ∷ []) in
-    let ordered : IsOrdered (map finding_of old.first.items) = rw holds.first_are (take_ordered lines_limit (by_fault all) (are_ordered all)) in
     record {
-      first_are = kept ∙ ap (take lines_limit) (rw at (placed old.first.items x ordered) ∙ ap (λ ys. put ys x) holds.first_are)
+      first_are = kept ∙ ap (take lines_limit) (rw at (placed old.first.items x) ∙ ap (λ ys. put ys x) holds.first_are)
           ∙ take_put lines_limit (by_fault all) x ∙ ap (take lines_limit) (sym (fold-append put [] all (x ∷ [])));
       count_is = omega arith;
     }
 
 -- one finding past the first ones
-pub adds_past : (old new : Kept) (x : PlanFinding) (index : ℕ) → new.count ≡ old.count + 1 → index ≡ index_in old x
+pub adds_past : (old new : Kept) (x : PlanFinding) (index : ℕ) → new.count ≡ old.count + 1 → index ≡ index_in old.first.items x
     → lines_limit ≤ index → new.first ≡ old.first → KeepsOne old new x
 adds_past old new x index counted at past same all holds =
     let ys = map finding_of old.first.items in
     let most : length ys ≤ lines_limit = let is = holds.first_are in let size = length-take lines_limit (by_fault all) in rw is (omega arith) in
-    let within : index ≤ length ys = rw (at, length-map old.first.items finding_of) (count_by-le-length _ old.first.items) in
+    let within : index ≤ length ys = rw (at, length-map old.first.items finding_of) (prefix_len-le-length _ old.first.items) in
     adds_put old new x index counted at (ap (λ v. map finding_of v.items) same ∙ sym (all_kept ys most within)) all holds
   where
     all_kept : (ys : List PlanFinding) → length ys ≤ lines_limit → index ≤ length ys → take lines_limit (insert ys index x) ≡ ys

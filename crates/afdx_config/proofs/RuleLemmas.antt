@@ -1,11 +1,9 @@
 -- A document whose values have no fault has the faults of its plan.
-use Rattle.afdx_config.proofs.Names.{◌≡◌, ◌<◌, List, [], ◌∷◌, Bool, false, map, refl, ap, sym, ◌∙◌, AllByRecursion, list_any, ◌||◌, ◌&&◌, ◌==◌, is_none, Members, Plan, cells_of, cells_show, plan_of, PlanRule, breaks, link_whole, port_whole, whole, plan_rules, Top, Link, Port, document_fields, link_fields, port_fields, is_version_2, IsSoundTable, RulesAgree, PlanFinding, ConfigFault, eq-eqb, fault_number, findings, has, codes, link_of, port_of, get_member, plan_shows, None, or_parts, All-map, Networks, Checksum, field, networks_under, checksum_under, AreInRange, plan_in, Rows, IsPlan, IsLink, IsPort, Ms1, Both, Sampling, Omitted, Unbroken, valid, All, by_fault, told_once}
+use Rattle.afdx_config.proofs.Names.{◌≡◌, ◌<◌, List, [], ◌∷◌, Bool, false, map, refl, ap, sym, ◌∙◌, AllByRecursion, list_any, ◌||◌, ◌&&◌, ◌==◌, is_none, Members, Plan, cells_of, cells_show, plan_of, PlanRule, breaks, link_whole, port_whole, whole, plan_rules, Top, Link, Port, document_fields, link_fields, port_fields, is_version_2, IsSoundTable, RulesAgree, PlanFinding, ConfigFault, eq-eqb, fault_number, findings, has, codes, link_of, port_of, get_member, plan_shows, None, or_parts, All-map, Networks, Checksum, field, networks_under, checksum_under, AreInRange, plan_in, Rows, IsPlan, IsLink, IsPort, Ms1, Both, Sampling, Omitted, Unbroken, valid}
 use Rattle.afdx_config.specs.Cells.{link_row, port_row}
-use Rattle.afdx_config.specs.Findings.{plan_findings, value_findings}
+use Rattle.afdx_config.specs.Findings.{value_findings}
 use Rattle.afdx_config.proofs.FirstLemmas.{no_value}
-use Rattle.afdx_config.proofs.OnceLemmas.{no_once}
-use Rattle.afdx_config.proofs.OrderLemmas.{no_finding}
-use Rattle.afdx_config.proofs.ShownLemmas.{faults_are_found, plan_shown}
+use Rattle.afdx_config.proofs.ShownLemmas.{faults_are_found}
 use Rattle.afdx_config.proofs.SoundLemmas.{known, known_in, none, rows_sound, table_sound}
 
 -- a table without faults has all its values

@@ -13,7 +13,7 @@ use Rattle.afdx_config.specs.declared.findings.Found.{Found}
 use Rattle.toml.specs.Data.{Members}
 use Rattle.toml.specs.View.{table_view}
 use Rattle.afdx_config.specs.Format.{Field}
-use Rattle.afdx_config.specs.Tables.{field_fault, section_at, rows_at}
+use Rattle.afdx_config.specs.Tables.{field_fault, section_at, rows_at, is_version_2}
 use Rattle.afdx_config.specs.declared.format.Field.{Field as WrittenField}
 use Rattle.afdx_config.specs.declared.document.Document.{Document}
 
@@ -83,11 +83,12 @@ field_of written = record {
 abbrev pub data_of : Document → Members
 data_of document = table_view document.top.now
 
--- the tables are the document's
+-- the tables and the version are the document's
 pub record IsDocument (document : Document) : Type 0 where
   pub end_is : option_map (λ t. table_view t.now) document.end ≡ section_at (codes "end_system") (data_of document)
   pub links_are : map (λ r. table_view r.now) document.links.items ≡ rows_at (codes "vl") (data_of document)
   pub ports_are : map (λ r. table_view r.now) document.ports.items ≡ rows_at (codes "port") (data_of document)
+  pub version_is : document.is_2 ≡ is_version_2 (data_of document)
 
 -- no key of this format has a fault in the table
 abbrev pub IsSoundTable : List Field → Members → Type 0

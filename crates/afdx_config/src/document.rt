@@ -1,20 +1,22 @@
 //! The document of a plan and its tables.
 ghost use Rattle.std.specs.Prelude.{◌≡◌, map, IfOk, option_map};
 ghost use Rattle.toml.specs.View.{table_view, items_view};
-ghost use Rattle.afdx_config.specs.Tables.{tables_among, rows_at, section_at, is_version_2};
+ghost use Rattle.afdx_config.specs.Tables.{tables_among, rows_at, section_at};
 ghost use Rattle.afdx_config.specs.Seen.{IsDocument, data_of};
 
 use crate::reading::{value_at, version_in};
 use std::alloc::{AllocError, Global};
 use toml::{Table, Value};
 
-/// A document with its tables of the end system, links and ports, in the order of the text.
+/// A document with its tables of the end system, links and ports, in the order of the text, and whether its format
+/// has version 2.
 #[derive(Drop)]
 pub(crate) struct Document<'a> {
     pub top: &'a Table,
     pub end: Option<&'a Table>,
     pub links: Vec<&'a Table>,
     pub ports: Vec<&'a Table>,
+    pub is_2: bool,
 }
 
 /// Returns the tables of an array.
@@ -47,13 +49,6 @@ fn section<'a>(document: &'a Table, key: &str) -> Option<&'a Table>
     value_at(document, key)?.as_table()
 }
 
-/// Returns true if the document has format version 2.
-pub(crate) fn is_version_2(document: &Document<'_>) -> bool
-    ensures { result ≡ is_version_2 (data_of document.now) }
-{
-    version_in(document.top) == Ok(2)
-}
-
 impl<'a> Document<'a> {
     /// Finds the tables.
     pub(crate) fn of(alloc: Global, table: &'a Table) -> Result<Document<'a>, AllocError>
@@ -65,6 +60,7 @@ impl<'a> Document<'a> {
             end: section(table, "end_system"),
             links: rows(alloc, table, "vl")?,
             ports: rows(alloc, table, "port")?,
+            is_2: version_in(table) == Ok(2),
         })
     }
 }

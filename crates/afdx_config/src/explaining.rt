@@ -7,7 +7,6 @@ ghost use Rattle.afdx_config.specs.Seen.{finding_of};
 
 use crate::document::Document;
 use crate::findings::{Found, Place, PlanFinding, add};
-use crate::layout::lines_of_findings;
 use crate::plan_findings::add_all;
 use crate::told::text_of;
 use afdx_plan::ConfigFault;
@@ -44,11 +43,7 @@ fn explanation_of(
     ensures findings { IfOk result (λ e. (e.findings ≡ found.first) × (e.count ≡ found.count)) }
     ensures text { IfOk result (λ e. HasLines e.count e.text.items) }
 {
-    let lines = match name {
-        Some(_) => lines_of_findings(alloc, text, found.first.as_slice())?,
-        None => Vec::new(alloc),
-    };
-    let text = text_of(alloc, document, &found, name, lines.as_slice()).map_err(|_| AllocError)?;
+    let text = text_of(alloc, document, &found, text, name).map_err(|_| AllocError)?;
     Ok(Explanation {
         findings: found.first,
         count: found.count,

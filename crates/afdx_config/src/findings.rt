@@ -1,8 +1,8 @@
 //! Faults of a plan with their places.
-ghost use Rattle.std.specs.Prelude.{◌≡◌, ◌∷◌, [], count_by, nat_le, OnOk};
+ghost use Rattle.std.specs.Prelude.{◌≡◌, ◌≤◌, ◌∷◌, [], length, None, nat_le, OnOk};
+ghost use Rattle.std.specs.List.{prefix_len};
 ghost use Rattle.afdx_config.specs.Findings.{found as finding_at, is_newer as is_newer_finding, one_if, row_like};
 ghost use Rattle.afdx_config.specs.Seen.{Adds, Holds, KeepsOne};
-ghost use Rattle.std.specs.Prelude.{None};
 ghost use Rattle.afdx_plan.specs.PlanFaults.{fault_number};
 
 use afdx_plan::ConfigFault;
@@ -77,14 +77,15 @@ impl Found {
 /// The result of an addition.
 pub(crate) type Added = Result<(), AllocError>;
 
-/// Returns the number of the findings whose faults have no greater number than `fault`.
+/// Returns the number of the first findings whose faults have no greater number than `fault`.
 fn index_of(first: &[PlanFinding], fault: ConfigFault) -> usize
-    ensures { result ≡ count_by (λ f. nat_le (fault_number f.fault) (fault_number fault)) first.now }
+    ensures index { result ≡ prefix_len (λ f. nat_le (fault_number f.fault) (fault_number fault)) first.now }
+    ensures within { result ≤ length first.now }
 {
     let number = fault.number();
     first
         .iter()
-        .filter(|other| other.fault.number() <= number)
+        .take_while(|other| other.fault.number() <= number)
         .count()
 }
 

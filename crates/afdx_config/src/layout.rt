@@ -22,7 +22,7 @@ const OTHER: TableName = (4, 0);
 type Spot<'a> = (TableName, &'a str);
 
 /// The first line of each spot, from 1.
-type Lines<'a> = BTreeMap<Spot<'a>, usize>;
+pub(crate) type Lines<'a> = BTreeMap<Spot<'a>, usize>;
 
 /// The beginning of a line.
 #[derive(Clone, Copy)]
@@ -123,7 +123,7 @@ fn table_of(begun: &mut Begun, name: &str, is_row: bool) -> TableName {
 }
 
 /// Returns the lines of the spots of a text, up to its first line of another form.
-fn lines_of(alloc: Global, text: &[u8]) -> Result<Lines<'_>, AllocError> {
+pub(crate) fn lines_of(alloc: Global, text: &[u8]) -> Result<Lines<'_>, AllocError> {
     let mut lines = BTreeMap::new(alloc);
     let mut begun = Begun { links: 0, ports: 0 };
     let mut table = TOP;
@@ -162,7 +162,7 @@ fn table_at(place: Place) -> TableName {
 
 /// Returns the line of a finding: of its place if the text stops being TOML there, of its key, or else of its table's
 /// header.
-fn line_of<'a>(lines: &Lines<'a>, finding: &'a PlanFinding) -> Option<usize> {
+pub(crate) fn line_of<'a>(lines: &Lines<'a>, finding: &'a PlanFinding) -> Option<usize> {
     if let Place::Text(line, _) = finding.place {
         return Some(line);
     }
@@ -180,18 +180,4 @@ fn line_at<'a>(lines: &Lines<'a>, table: TableName, key: &'a str) -> Option<usiz
 pub fn id_line(alloc: Global, text: &[u8], place: Place) -> Result<Option<usize>, AllocError> {
     let lines = lines_of(alloc, text)?;
     Ok(line_at(&lines, table_at(place), "id"))
-}
-
-/// Returns the line of each finding, from 1, if it is known.
-pub(crate) fn lines_of_findings<'a>(
-    alloc: Global,
-    text: &'a [u8],
-    findings: &'a [PlanFinding],
-) -> Result<Vec<Option<usize>>, AllocError> {
-    let lines = lines_of(alloc, text)?;
-    let mut found = Vec::new(alloc);
-    for finding in findings {
-        found.push(line_of(&lines, finding))?;
-    }
-    Ok(found)
 }

@@ -27,13 +27,6 @@ use std::collections::BTreeMap;
 /// The number of ports on each sub-VL of each link.
 type Counts = BTreeMap<(u16, u16), usize>;
 
-/// Returns the number of ports on a sub-VL of a link.
-fn count_of(counts: &Counts, vl: u16, sub: u16) -> usize
-    ensures { result ≡ unwrap_or (get sub_cmp counts.now (vl, sub)) 0 }
-{
-    counts.get(&(vl, sub)).copied().unwrap_or(0)
-}
-
 /// Counts a port. Returns the number of ports before it on its sub-VL.
 fn count_port(counts: &mut Counts, port: &PortRow) -> Result<usize, AllocError>
     requires { (q : ℕ × ℕ) → unwrap_or (get sub_cmp counts.old q) 0 < 2 ^ 63 }
@@ -44,7 +37,7 @@ fn count_port(counts: &mut Counts, port: &PortRow) -> Result<usize, AllocError>
 {
     match (port.vl, port.sub) {
         (Some(vl), Some(sub)) => {
-            let before = count_of(counts, vl, sub);
+            let before = counts.get(&(vl, sub)).copied().unwrap_or(0);
             counts.insert((vl, sub), before + 1)?;
             Ok(before)
         }
@@ -78,14 +71,6 @@ fn all_named(rows: &Rows) -> bool
     ensures { result ≡ all_named (cells_in rows.now) }
 {
     rows.has_links && !some_is_nameless(rows.links.as_slice())
-}
-
-/// Returns the number of a table, counted from 1.
-fn number_of(place: Option<usize>) -> Option<usize>
-    requires { IfSome place (λ i. i + 1 < 2 ^ 64) }
-    ensures { result ≡ option_map (λ i. i + 1) place }
-{
-    Some(place? + 1)
 }
 
 /// Returns whether a port does not fit its link in this way.
@@ -138,7 +123,7 @@ fn add_misfits(
         let place = link_place(links, by_id, port);
         let is_misfit = is_misfit(misfit, is_named, port, nth_row(links, place));
         let at = Place::Port(i + 1);
-        let other = number_of(place);
+        let other = place.map(|i| i + 1);
         add_if(is_misfit, found, fault, at, key, other)?;
     }
     Ok(())

@@ -13,7 +13,7 @@ ghost use Rattle.afdx_plan.specs.Plan.{IsLink, IsPort};
 ghost use Rattle.std.specs.Option.{option_map_or};
 ghost use Rattle.afdx_config.specs.declared.findings.Place.TheVariants.{Top, EndSystem};
 
-use crate::document::{Document, is_version_2};
+use crate::document::Document;
 use crate::findings::{Added, Found, Place, add, row_like};
 use crate::format::{
     CAPACITY, DOCUMENT, END, Field, IDENTIFIER, LINK, LMAX, MESSAGE, PARTITION, PORT, Range,
@@ -321,7 +321,7 @@ pub(crate) fn add_values(found: &mut Found, document: &Document<'_>) -> Result<R
 {
     let arrays = add_top(found, document.top)?;
     let end_system = add_end(found, document)?;
-    let is_2 = is_version_2(document);
+    let is_2 = document.is_2;
     let links = add_rows(found, Place::Link(0), is_2, document.links.as_slice())?;
     let ports = add_rows(found, Place::Port(0), is_2, document.ports.as_slice())?;
     Ok(Rows {

@@ -3,9 +3,10 @@ ghost use Rattle.std.specs.Prelude.{◌≡◌, ◌++◌, ◌-◌, IfOk, OnOk};
 ghost use Rattle.afdx_config.specs.Explained.{HasLines, count_line, rest_line};
 ghost use Rattle.afdx_config.specs.Findings.{lines_limit};
 
-use crate::document::{Document, is_version_2};
+use crate::document::Document;
 use crate::findings::{Found, LINES_LIMIT, Place, PlanFinding, row_like};
 use crate::format::{Content, DOCUMENT, END, Field, field_named, key_fault};
+use crate::layout::{line_of, lines_of};
 use crate::reading::value_at;
 use crate::rows::Row;
 use afdx_plan::{ConfigFault, LinkRow, PortRow};
@@ -113,7 +114,7 @@ fn fields_at(is_2: bool, place: Place) -> &'static [Field] {
 
 /// Returns the content of a finding's key.
 fn content_at(document: &Document<'_>, finding: &PlanFinding) -> Option<Content> {
-    let fields = fields_at(is_version_2(document), finding.place);
+    let fields = fields_at(document.is_2, finding.place);
     field_named(fields, finding.key.as_str()).map(|field| field.1)
 }
 
@@ -154,7 +155,7 @@ fn write_known(out: &mut Text, document: &Document<'_>, finding: &PlanFinding) -
         };
     }
     out.write_all(b"the keys are")?;
-    let fields = fields_at(is_version_2(document), finding.place);
+    let fields = fields_at(document.is_2, finding.place);
     for field in fields {
         write!(out, " {}", field.0)?;
     }
@@ -294,22 +295,23 @@ fn write_origin(out: &mut Text, name: &str, line: Option<usize>) -> Result<()> {
     }
 }
 
-/// Returns the lines of findings.
-fn lines_of(
+/// Returns the lines of findings in a text.
+fn told_lines(
     alloc: Global,
     document: Option<&Document<'_>>,
     findings: &[PlanFinding],
+    text: &[u8],
     name: Option<&str>,
-    lines: &[Option<usize>],
 ) -> Result<Text> {
-    let mut text = Vec::new(alloc);
-    for (k, finding) in findings.iter().enumerate() {
+    let mut out = Vec::new(alloc);
+    let lines = lines_of(alloc, if name.is_some() { text } else { b"" })?;
+    for finding in findings {
         if let Some(name) = name {
-            write_origin(&mut text, name, lines.get(k).copied().flatten())?;
+            write_origin(&mut out, name, line_of(&lines, finding))?;
         }
-        write_finding(&mut text, document, finding)?;
+        write_finding(&mut out, document, finding)?;
     }
-    Ok(text)
+    Ok(out)
 }
 
 /// Writes the number of findings.
@@ -342,15 +344,15 @@ pub(crate) fn text_of(
     alloc: Global,
     document: Option<&Document<'_>>,
     found: &Found,
+    text: &[u8],
     name: Option<&str>,
-    lines: &[Option<usize>],
 ) -> Result<Text>
-    ensures { IfOk result (λ text. HasLines found.now.count text.items) }
+    ensures { IfOk result (λ out. HasLines found.now.count out.items) }
 {
-    let mut text = Vec::new(alloc);
-    write_count(&mut text, found.count)?;
-    let lines = lines_of(alloc, document, found.first.as_slice(), name, lines)?;
-    text.write_all(lines.as_slice())?;
-    write_rest(&mut text, found.count)?;
-    Ok(text)
+    let mut out = Vec::new(alloc);
+    write_count(&mut out, found.count)?;
+    let lines = told_lines(alloc, document, found.first.as_slice(), text, name)?;
+    out.write_all(lines.as_slice())?;
+    write_rest(&mut out, found.count)?;
+    Ok(out)
 }
