@@ -36,11 +36,11 @@ pub use Rattle.afdx_plan.specs.PlanFaults.{are_one_address, are_one_destination,
 pub use Rattle.afdx_plan.specs.declared.fault.ConfigFault.{ConfigFault}
 pub use Rattle.afdx_plan.specs.declared.fault.ConfigFault.TheVariants.{Limit, Memory, Toml, UnknownKey}
 pub use Rattle.afdx_config.specs.Tables.{member_keys, tables_among, content_fault, field_fault, has_other_item, is_fault, is_key_of, is_version_2, key_fault, rows_at, section_at, networks_under, checksum_under, read}
-pub use Rattle.afdx_config.specs.Explained.{column_after, TellsDocument, TellsStop}
+pub use Rattle.afdx_config.specs.Explained.{column_after}
 pub use Rattle.afdx_config.specs.Faults.{HasFault, IsLeastFault, IsPlanOf, Reads, shows, values_show}
 pub use Rattle.afdx_config.specs.FindingLaws.{FaultsAreFound, FirstIsAnswered, PlacesHaveFaults, RulesAgree, breaks_at, fields_at, has_place, members_at, key_has, row_has, rows_have, tells, value_has}
 pub use Rattle.afdx_config.specs.Cells.{cells_of, link_of, plan_of, port_of, link_row, port_row}
-pub use Rattle.afdx_config.specs.Findings.{PlanFinding, crowd_finding, each_row, findings, found, has, key_finding, misfit_finding, one_if, pair_finding, pair_findings, row_like, rule_findings, table_findings, field_findings, key_findings, by_fault, number_of, plan_findings, value_findings, lines_limit, put, is_newer, once_after, told_once}
+pub use Rattle.afdx_config.specs.Findings.{PlanFinding, crowd_finding, each_row, findings, found, has, is_before, key_finding, misfit_finding, one_if, pair_finding, pair_findings, row_like, rule_findings, table_findings, field_findings, key_findings, by_fault, number_of, plan_findings, value_findings, lines_limit, put, is_newer, once_after, told_once}
 pub use Rattle.afdx_config.specs.Sharing.{first_row, is_key, flow_of, sub_in, is_on_sub, all_five, address_in, address_of, address_cmp, first_at, off_link, sharing_place, sub_cmp}
 pub use Rattle.afdx_config.specs.Format.{Field, document_fields, end_fields, link_fields, port_fields, only_in_2, field}
 pub use Rattle.afdx_config.specs.Seen.{Adds, cells_in, finding_of, IsDocument, IsSoundTable, data_of, field_of, Holds, Keeps, KeepsOne, IsOrdered, fault_of, AreInRange, plan_in}

@@ -49,11 +49,11 @@ no_once [] is = refl
 no_once (x ∷ xs) is = cc
 
 -- adding a finding whose cause was told
-pub adds_none : (old new : Kept) (x : PlanFinding) → old.has_newer ≡ true → is_newer x ≡ true → new ≡ old → Adds old new (x ∷ [])
-adds_none old new x told newer same all holds =
-    let seen : list_any is_newer all ≡ true = sym holds.newer_is ∙ told in
-    let kept = told_same false all x (rw (seen, newer) refl) in
-    rw same (record { keeps = rw kept holds.keeps; newer_is = told ∙ sym (rw (list_any-append is_newer all (x ∷ []), seen) refl) })
+pub adds_none : (old new : Kept) (x : PlanFinding) → (old.has_newer && is_newer x) ≡ true → new ≡ old → Adds old new (x ∷ [])
+adds_none old new x both same all holds =
+    let kept = told_same false all x (rw (← holds.newer_is) both) in
+    let told = holds.newer_is in
+    rw same (record { keeps = rw kept holds.keeps; newer_is = grind (arith, nat_tests, list_any-append) })
 
 -- adding one whose cause wasn't
 pub adds_told : (old mid new : Kept) (x : PlanFinding) → (old.has_newer && is_newer x) ≡ false → KeepsOne old mid x

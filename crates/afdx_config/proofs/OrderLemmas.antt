@@ -1,5 +1,5 @@
 -- Findings in the order of the numbers of their faults.
-use Rattle.afdx_config.proofs.Names.{fold-append, common_steps, length-take, map-append, drop-map, take-append-le, take-take, fold, insert, length-append, ◌≡◌, ℕ, zero, suc, ◌+◌, ◌≤◌, List, [], ◌∷◌, ◌++◌, length, take, drop, map, Bool, true, false, ◌||◌, cond, refl, ap, sym, ◌∙◌, arith, take_all, take-map, length-map, fault_number, AllByRecursion, list_any, nat_lt, nat_tests, or-false, PlanFinding, KeepsOne, finding_of, by_fault, lines_limit, number_of, put, IsOrdered, Written, Kept, nat_le, prefix_len, prefix_len-le-length}
+use Rattle.afdx_config.proofs.Names.{fold-append, common_steps, length-take, map-append, drop-map, take-append-le, take-take, fold, insert, ◌≡◌, ℕ, zero, suc, ◌+◌, ◌≤◌, List, [], ◌∷◌, ◌++◌, length, take, drop, map, Bool, true, false, ◌||◌, cond, refl, ap, sym, ◌∙◌, arith, take_all, take-map, length-map, fault_number, AllByRecursion, list_any, nat_lt, nat_tests, or-false, PlanFinding, KeepsOne, finding_of, by_fault, lines_limit, number_of, put, IsOrdered, Written, Kept, nat_le, prefix_len, prefix_len-le-length}
 
 -- what holds of each element of two lists holds of those of both
 pub r_append : {A : Type 0} (P : A → Type 0) (xs ys : List A) → AllByRecursion P xs → AllByRecursion P ys → AllByRecursion P (xs ++ ys)
@@ -34,13 +34,6 @@ fold_any p ys (x ∷ xs) = grind (arith, nat_tests, put_any, (fold_any p (put ys
 put_length : (ys : List PlanFinding) (x : PlanFinding) → length (put ys x) ≡ length ys + 1
 put_length [] x = refl
 put_length (y ∷ ys) x = grind (arith, put_length ys x)
-
-fold_length : (ys xs : List PlanFinding) → length (fold put ys xs) ≡ length ys + length xs
-fold_length ys [] = omega arith
-fold_length ys (x ∷ xs) = fold_length (put ys x) xs ∙ rw (put_length ys x) (omega arith)
-
-pub length_by_fault : (xs : List PlanFinding) → length (by_fault xs) ≡ length xs
-length_by_fault xs = fold_length [] xs ∙ omega arith
 
 pub any_by_fault : (p : PlanFinding → Bool) (xs : List PlanFinding) → list_any p (by_fault xs) ≡ list_any p xs
 any_by_fault p xs = fold_any p [] xs
@@ -87,12 +80,11 @@ map_insert first i x = sym (take-map finding_of lines_limit (insert first i x)) 
 pub adds_put : (old new : Kept) (x : PlanFinding) (index : ℕ) → new.count ≡ old.count + 1 → index ≡ index_in old.first.items x
     → map finding_of new.first.items ≡ take lines_limit (insert (map finding_of old.first.items) index x) → KeepsOne old new x
 adds_put old new x index counted at kept all holds =
-    let size = holds.count_is in
-    let more : length (all ++ x ∷ []) ≡ length all + 1 = length-append all (x ∷ []) in
+    let more : by_fault (all ++ x ∷ []) ≡ put (by_fault all) x = fold-append put [] all (x ∷ []) in
     record {
-      first_are = kept ∙ ap (take lines_limit) (rw at (placed old.first.items x) ∙ ap (λ ys. put ys x) holds.first_are)
-          ∙ take_put lines_limit (by_fault all) x ∙ ap (take lines_limit) (sym (fold-append put [] all (x ∷ [])));
-      count_is = omega arith;
+      first_are = rw more (kept ∙ ap (take lines_limit) (rw at (placed old.first.items x) ∙ ap (λ ys. put ys x) holds.first_are)
+          ∙ take_put lines_limit (by_fault all) x);
+      count_is = rw more (counted ∙ ap (λ n. n + 1) holds.count_is ∙ sym (put_length (by_fault all) x));
     }
 
 -- one finding past the first ones

@@ -1,5 +1,5 @@
 -- A document has a fault exactly if some finding has it.
-use Rattle.afdx_config.proofs.Names.{length-append, ◌≡◌, ℕ, ◌+◌, ◌<◌, ◌≤◌, List, [], ◌∷◌, ◌++◌, length, Bool, true, false, ◌||◌, ◌&&◌, append_assoc, lit≤, Option, Some, None, refl, ap, sym, ◌∙◌, arith, ◌==◌, nat_tests, or-false, and-true, and-false, and-or_distrib_left, nat_lt, list_any-append, position, position_from, list_any, then_some, position_from-zero, AllByRecursion, not, Data, Members, get_member, fault_number, has_pair, ConfigFault, Toml, UnknownKey, Place, Top, Link, Port, Field, flat_map, PlanRule, Rule, links_clash, ports_clash, port_misfits, link_count, port_count, sub_is_packed, breaks, is_misfit, plan_rules, rule_findings, shows, values_show, PlanFinding, found, has, one_if, key_finding, member_keys, each_row, pair_finding, pair_findings, is_past_limit, misfit_finding, crowd_finding, Cells, cells_show, any_row, field_fault, key_fault, is_key_of, IfSome, Content, Result, content_fault, FaultsAreFound, result_err, read, value_findings}
+use Rattle.afdx_config.proofs.Names.{length-append, ◌≡◌, ℕ, ◌+◌, ◌<◌, ◌≤◌, List, [], ◌∷◌, ◌++◌, length, Bool, true, false, ◌||◌, ◌&&◌, append_assoc, lit≤, Option, Some, None, refl, ap, sym, ◌∙◌, arith, ◌==◌, nat_tests, or-false, and-true, and-false, and-or_distrib_left, list_any-append, position, position_from, list_any, then_some, position_from-zero, AllByRecursion, not, Data, Members, get_member, fault_number, has_pair, ConfigFault, Toml, UnknownKey, Place, Top, Link, Port, Field, flat_map, PlanRule, Rule, links_clash, ports_clash, port_misfits, link_count, port_count, sub_is_packed, breaks, is_misfit, plan_rules, rule_findings, shows, values_show, PlanFinding, found, has, is_before, one_if, key_finding, member_keys, each_row, pair_finding, pair_findings, is_past_limit, misfit_finding, crowd_finding, Cells, cells_show, any_row, field_fault, key_fault, is_key_of, IfSome, Content, Result, content_fault, FaultsAreFound, result_err, read, value_findings}
 use Rattle.afdx_config.specs.Findings.{plan_findings, table_findings}
 use Rattle.afdx_config.proofs.OnceLemmas.{any_once}
 use Rattle.afdx_config.proofs.OrderLemmas.{any_by_fault, r_append, r_map}
@@ -31,17 +31,6 @@ rows_shown f g each test k (x ∷ xs) shown =
 any_one : {A : Type 0} (p : A → Bool) (k : ℕ) (xs : List A) → any_row (λ j x. p x) k xs ≡ list_any p xs
 any_one p k [] = refl
 any_one p k (x ∷ xs) = ap (λ b. p x || b) (any_one p (k + 1) xs)
-
--- an index is that of a row before row k
-abbrev is_before : ℕ → Option ℕ → Bool
-is_before k None = false
-is_before k (Some i) = nat_lt (i + 1) k
-
--- the finding of a pair
-pair : (f g : ConfigFault) (key : List ℕ) (at : ℕ → Place) (k : ℕ) (o : Option ℕ)
-    → list_any (has f) (pair_finding g key at k o) ≡ (same f g && is_before k o)
-pair f g key at k None = sym (and-false (same f g))
-pair f g key at k (Some i) = one f (nat_lt (i + 1) k) (found g (at k) key (Some (i + 1)))
 
 -- the first row that passes is before row k exactly if some row before it passes
 late : {A : Type 0} (p : A → Bool) (n k : ℕ) (rows : List A) → k ≤ n + 1 → is_before k (position_from p n rows) ≡ false
@@ -81,7 +70,7 @@ pairs_shown : {A : Type 0} (f g : ConfigFault) (key : List ℕ) (at : ℕ → Pl
     → list_any (has f) (pair_findings g key at related rows) ≡ (same f g && has_pair related rows)
 pairs_shown f g key at related rows =
     rows_shown f g (λ k x. pair_finding g key at k (position (λ e. related e x) rows)) (λ k x. is_before k (position (λ e. related e x) rows)) 1 rows
-    (λ k x. pair f g key at k (position (λ e. related e x) rows))
+    (λ k x. one f (is_before k (position (λ e. related e x) rows)) _)
     ∙ ap (λ b. same f g && b) (any_pair related rows [] rows 1 refl refl ∙ ap (λ b. b || has_pair related rows) (any_no rows))
 
 -- the findings of a rule

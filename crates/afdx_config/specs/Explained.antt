@@ -4,7 +4,7 @@ use Rattle.toml.specs.Data.{Members}
 use Rattle.afdx_plan.specs.declared.fault.ConfigFault.TheVariants.{Toml}
 use Rattle.afdx_config.specs.declared.findings.Place.TheVariants.{Text}
 use Rattle.afdx_config.specs.Faults.{Reads}
-use Rattle.afdx_config.specs.Findings.{PlanFinding, found, findings, lines_limit}
+use Rattle.afdx_config.specs.Findings.{PlanFinding, Tells, found, findings, lines_limit}
 
 -- the line after these bytes, counted from 1
 abbrev pub line_of : List ℕ → ℕ
@@ -20,22 +20,16 @@ column_after k [] = 1 + k
 column_after k (byte ∷ rest) =
     column_after (if byte == 10 then 0 else if begins_character byte then k + 1 else k) rest
 
--- the first findings of a document, and the number of all
-pub record TellsDocument (document : Members) (first : List PlanFinding) (count : ℕ) : Type 0 where
-  pub findings_are : first ≡ take lines_limit (findings document)
-  pub count_is : count ≡ length (findings document)
-
--- the one finding of a text that stops being TOML after these bytes, with the message of the TOML parser
-pub record TellsStop (before message : List ℕ) (first : List PlanFinding) (count : ℕ) : Type 0 where
-  pub finding_is : first ≡ found Toml (Text (line_of before) (column_after 0 before)) message None ∷ []
-  pub count_is : count ≡ 1
+-- the finding of a text that stops being TOML after these bytes, with the message of the TOML parser
+unfoldable pub stop_finding : List ℕ → List ℕ → PlanFinding
+stop_finding before message = found Toml (Text (line_of before) (column_after 0 before)) message None
 
 -- the one finding of a text that stops being TOML at some place
 pub record TellsToml (input : List ℕ) (first : List PlanFinding) (count : ℕ) : Type 0 where
   pub at : ℕ
   pub within : at ≤ length input
   pub message : List ℕ
-  pub tells : TellsStop (take at input) message first count
+  pub tells : Tells (stop_finding (take at input) message ∷ []) first count
 
 -- the number of findings
 unfoldable pub count_line : ℕ → List ℕ
@@ -56,5 +50,5 @@ pub record HasLines (count : ℕ) (text : List ℕ) : Type 0 where
 -- the first findings of a text, the number of all, and their text: the findings of its document, or that it is not TOML
 abbrev pub Explains : List ℕ → List PlanFinding → ℕ → List ℕ → Type 0
 Explains input first count text = HasLines count text
-    × (((document : Members) × Reads input document × TellsDocument document first count)
+    × (((document : Members) × Reads input document × Tells (findings document) first count)
     ⊎ (((document : Members) → ¬ Reads input document) × TellsToml input first count))

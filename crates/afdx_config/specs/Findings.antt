@@ -1,5 +1,5 @@
 -- All faults of a document, each with its place.
-use Rattle.std.specs.Prelude.{codes, ℕ, ◌+◌, List, [], ◌∷◌, ◌++◌, nat_lt, bytes_eq, Bool, true, false, ◌==◌, ◌&&◌, ◌||◌, if◌then◌else◌, Option, Some, None, option_map}
+use Rattle.std.specs.Prelude.{◌≡◌, length, take, codes, ℕ, ◌+◌, List, [], ◌∷◌, ◌++◌, nat_lt, bytes_eq, Bool, true, false, ◌==◌, ◌&&◌, ◌||◌, if◌then◌else◌, Option, Some, None, option_map}
 use Rattle.std.specs.List.{position, flat_map, fold}
 use Rattle.std.specs.Option.{option_map_or}
 use Rattle.toml.specs.Data.{Members}
@@ -72,10 +72,15 @@ value_findings document = table_findings Top document_fields document
     (λ k row. table_findings (Port k) (port_fields (is_version_2 document)) row) 1
     (rows_at (codes "port") document)
 
+-- an index is that of a row before row k
+abbrev pub is_before : ℕ → Option ℕ → Bool
+is_before k None = false
+is_before k (Some i) = nat_lt (i + 1) k
+
 -- the fault of table k and of the first one that it clashes with, which is at this index, if that one is earlier
 abbrev pub pair_finding : ConfigFault → List ℕ → (ℕ → Place) → ℕ → Option ℕ → List PlanFinding
-pair_finding fault key at k None = []
-pair_finding fault key at k (Some i) = one_if (nat_lt (i + 1) k) (found fault (at k) key (Some (i + 1)))
+pair_finding fault key at k first =
+    one_if (is_before k first) (found fault (at k) key (option_map (λ i. i + 1) first))
 
 -- the findings of the rows that clash with an earlier one, each with the first such row
 abbrev pub pair_findings : {A : Type 0} → ConfigFault → List ℕ → (ℕ → Place) → (A → A → Bool) → List A
@@ -144,3 +149,8 @@ findings document = by_fault (told_once (value_findings document ++ plan_finding
 -- the most findings that are kept, and have a line each
 abbrev pub lines_limit : ℕ
 lines_limit = 1000
+
+-- the first of these findings, and the number of all
+pub record Tells (all first : List PlanFinding) (count : ℕ) : Type 0 where
+  pub first_are : first ≡ take lines_limit all
+  pub count_is : count ≡ length all

@@ -11,35 +11,29 @@ pub record Field : Type 0 where
 abbrev pub field : List ℕ → Content → Field
 field name what = record { key = name; content = what }
 
--- the ranges of numbers: of identifiers
+-- the ranges of identifiers, of Lmax, of the number of sub-VLs, of the capacity of a queue, of sub-VLs, of partitions,
+-- of UDP ports, and of the greatest message
 abbrev pub id_range : ℕ × ℕ
 id_range = (0, 65535)
 
--- Lmax
 abbrev pub lmax_range : ℕ × ℕ
 lmax_range = (64, 1518)
 
--- the number of sub-VLs
 abbrev pub subs_range : ℕ × ℕ
 subs_range = (1, 4)
 
--- the capacity of a queue
 abbrev pub capacity_range : ℕ × ℕ
 capacity_range = (1, 256)
 
--- sub-VLs
 abbrev pub sub_range : ℕ × ℕ
 sub_range = (0, 3)
 
--- partitions
 abbrev pub partition_range : ℕ × ℕ
 partition_range = (0, 31)
 
--- UDP ports
 abbrev pub udp_range : ℕ × ℕ
 udp_range = (1, 65535)
 
--- the greatest message
 abbrev pub max_range : ℕ × ℕ
 max_range = (1, 8192)
 

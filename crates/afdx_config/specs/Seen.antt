@@ -57,7 +57,7 @@ IsOrdered (x ∷ xs) = AllByRecursion (λ y. number_of x ≤ number_of y) xs × 
 -- the first 1,000 of these findings by the numbers of their faults are kept, and all are counted
 pub record Keeps (found : Found) (told : List PlanFinding) : Type 0 where
   pub first_are : map finding_of found.first.items ≡ take lines_limit (by_fault told)
-  pub count_is : found.count ≡ length told
+  pub count_is : found.count ≡ length (by_fault told)
 
 -- a finding was added to the kept ones
 abbrev pub KeepsOne : Found → Found → PlanFinding → Type 0

@@ -1,8 +1,9 @@
 //! All faults of a plan, each with its place.
-ghost use Rattle.std.specs.Prelude.{◌≡◌, map, IfOk};
+ghost use Rattle.std.specs.Prelude.{◌≡◌, ◌∷◌, [], List, map, IfOk};
 ghost use Rattle.toml.specs.Errors.{IsWithin};
 ghost use Rattle.toml.specs.View.{table_view};
-ghost use Rattle.afdx_config.specs.Explained.{column_after, line_of, Explains, HasLines, TellsDocument, TellsStop, TellsToml};
+ghost use Rattle.afdx_config.specs.Explained.{column_after, line_of, Explains, HasLines, TellsToml, stop_finding};
+ghost use Rattle.afdx_config.specs.Findings.{PlanFinding as Finding, Tells, findings};
 ghost use Rattle.afdx_config.specs.Seen.{finding_of};
 
 use crate::document::Document;
@@ -40,7 +41,8 @@ fn explanation_of(
     text: &[u8],
     name: Option<&str>,
 ) -> Result<Explanation, AllocError>
-    ensures findings { IfOk result (λ e. (e.findings ≡ found.first) × (e.count ≡ found.count)) }
+    ensures findings { (all : List Finding) → Tells all (map finding_of found.first.items) found.count
+        → IfOk result (λ e. Tells all (map finding_of e.findings.items) e.count) }
     ensures text { IfOk result (λ e. HasLines e.count e.text.items) }
 {
     let text = text_of(alloc, document, &found, text, name).map_err(|_| AllocError)?;
@@ -59,7 +61,7 @@ fn explain_document(
     name: Option<&str>,
 ) -> Result<Explanation, AllocError>
     ensures findings { IfOk result (λ e.
-        TellsDocument (table_view table.now) (map finding_of e.findings.items) e.count) }
+        Tells (findings (table_view table.now)) (map finding_of e.findings.items) e.count) }
     ensures text { IfOk result (λ e. HasLines e.count e.text.items) }
 {
     let document = Document::of(alloc, table)?;
@@ -126,7 +128,8 @@ fn tell_toml(
     message: &str,
     name: Option<&str>,
 ) -> Result<Explanation, AllocError>
-    ensures findings { IfOk result (λ e. TellsStop before.now message.now (map finding_of e.findings.items) e.count) }
+    ensures findings { IfOk result (λ e.
+        Tells (stop_finding before.now message.now ∷ []) (map finding_of e.findings.items) e.count) }
     ensures text { IfOk result (λ e. HasLines e.count e.text.items) }
 {
     let mut found = Found::new(alloc);

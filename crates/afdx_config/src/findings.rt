@@ -112,11 +112,11 @@ pub(crate) fn add(
     ensures { OnOk result (Adds found.old found.new (finding_at fault place key.now other ∷ [])) }
 {
     let is_newer = is_newer(fault, place, key);
-    if found.has_newer && is_newer {
+    if found.has_newer & is_newer {
         return Ok(());
     }
     add_one(found, fault, place, key, other)?;
-    found.has_newer = found.has_newer || is_newer;
+    found.has_newer |= is_newer;
     Ok(())
 }
 

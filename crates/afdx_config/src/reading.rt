@@ -147,9 +147,7 @@ pub(crate) fn text_in<T: Named>(
     let Some(value) = value_at(table, key) else {
         return missing;
     };
-    let Some(text) = value.as_str() else {
-        return Err(ConfigFault::WrongKind);
-    };
+    let text = value.as_str().ok_or(ConfigFault::WrongKind)?;
     T::of_name(text).ok_or(ConfigFault::OutOfRange)
 }
 
@@ -180,13 +178,9 @@ pub(crate) fn unicast_in(table: &Table) -> Result<Option<[u8; 4]>, ConfigFault>
     let Some(value) = value_at(table, "dest_ip") else {
         return Ok(None);
     };
-    let Some(text) = value.as_str() else {
-        return Err(ConfigFault::WrongKind);
-    };
-    match unicast_address(text) {
-        Some(address) => Ok(Some(address)),
-        None => Err(ConfigFault::OutOfRange),
-    }
+    let text = value.as_str().ok_or(ConfigFault::WrongKind)?;
+    let address = unicast_address(text).ok_or(ConfigFault::OutOfRange)?;
+    Ok(Some(address))
 }
 
 /// Returns the fault of the table of the end system.
