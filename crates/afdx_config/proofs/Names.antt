@@ -13,28 +13,19 @@ pub use Rattle.std.proofs.lemmas.List.Folds.{find_at, flat_map-map, list_any-app
 pub use Rattle.std.proofs.lemmas.List.Quantifiers.{position-Some}
 pub use Rattle.std.proofs.lemmas.Map.Text.{is_eq-slice_cmp}
 pub use Rattle.std.specs.Cmp.{both_tied}
-pub use Rattle.std.specs.Cmp.Lexicographic.{slice_cmp}
+pub use Rattle.afdx_config.specs.Names.{All, AllByRecursion, Both, Cells, ConfigFault, Data, Err, IfErr, IfOk, IfSome, IsDotted, IsLink, IsPlan, IsPort, LinkRow, Members, Ms1, Ok, Omitted, Ordering, Plan, PlanRule, PortRow, Result, Rule, Sampling, Toml, UnknownKey, as_table, both, breaks, bytes_eq, cells_show, cons_option, fault_number, find, flat_map, fold, get, get_member, is_eq, is_misfit, is_past_limit, is_row_of, items_view, link_count, links_clash, list_any, nat_cmp, nat_lt, option_map_or, ordering_then, plan_rules, plan_shows, port_count, port_misfits, ports_clash, position, prefix_len, read_ipv4, result_err, result_ok, share_unicast, slice_cmp, sub_is_packed, table_view, then_some, view, ◌==◌, ◌≢◌}
 pub use Rattle.std.proofs.lemmas.Option.{same_Some, slice_get-get_or, slice_get_past}
 pub use Rattle.std.proofs.lemmas.Result.{on_ok_weaker, IfOk-weaker}
 pub use Rattle.std.proofs.lemmas.Simd.{map-map}
 pub use Rattle.std.proofs.lemmas.Slice.Eq.{bytes_eq-Decides}
-pub use Rattle.std.specs.Bool.{then_some}
-pub use Rattle.std.specs.List.{AllByRecursion, cons_option, filter_map, flat_map, list_any, position, prefix_len, position_from, position_or_len, fold, insert}
+pub use Rattle.std.specs.List.{filter_map, position_from, position_or_len, insert}
 pub use Rattle.std.specs.Map.{keys_of}
-pub use Rattle.std.specs.Ordering.{is_eq, nat_cmp, ordering_then}
-pub use Rattle.std.specs.declared.cmp.Ordering.{Ordering}
-pub use Rattle.std.specs.Net.Grammar.{IsDotted}
-pub use Rattle.std.specs.Net.Reader.{read_ipv4}
-pub use Rattle.std.specs.Option.{option_cmp, option_map_or}
-pub use Rattle.std.specs.Prelude.{All, Err, IfErr, IfOk, IfSome, Ok, Result, bytes_eq, find, nat_lt, ◌==◌, ◌≢◌}
+pub use Rattle.std.specs.Option.{option_cmp}
 pub use Rattle.std.specs.declared.net.ipv4_addr.Ipv4Addr.{Ipv4Addr}
-pub use Rattle.toml.specs.Data.{Data, Members, as_table, get_member}
-pub use Rattle.toml.specs.View.{items_view, members_view, table_view, view}
+pub use Rattle.toml.specs.View.{members_view}
 pub use Rattle.toml.specs.declared.value.Value.{Value}
-pub use Rattle.afdx_plan.specs.Config.{Plan, IsPlan}
-pub use Rattle.afdx_plan.specs.PlanFaults.{are_one_address, are_one_destination, both, breaks, fault_number, has_pair, is_row_of, link_count, link_whole, links_clash, on_sub_of, plan_rules, plan_shows, PlanRule, port_count, port_misfits, port_whole, ports_clash, rule, Rule, same_flow, same_link, same_port, share_unicast, sub_is_packed, Cells, cells_show, any_row, is_misfit, is_past_limit, whole}
-pub use Rattle.afdx_plan.specs.declared.fault.ConfigFault.{ConfigFault}
-pub use Rattle.afdx_plan.specs.declared.fault.ConfigFault.TheVariants.{Limit, Memory, Toml, UnknownKey}
+pub use Rattle.afdx_plan.specs.PlanFaults.{are_one_address, are_one_destination, has_pair, link_whole, on_sub_of, port_whole, rule, same_flow, same_link, same_port, any_row, whole}
+pub use Rattle.afdx_plan.specs.declared.fault.ConfigFault.TheVariants.{Limit, Memory}
 pub use Rattle.afdx_config.specs.Tables.{member_keys, tables_among, content_fault, field_fault, has_other_item, is_fault, is_key_of, is_version_2, key_fault, rows_at, section_at, networks_under, checksum_under, read}
 pub use Rattle.afdx_config.specs.Explained.{column_after}
 pub use Rattle.afdx_config.specs.Faults.{HasFault, IsLeastFault, IsPlanOf, Reads, shows, values_show}
@@ -45,27 +36,19 @@ pub use Rattle.afdx_config.specs.Sharing.{first_row, is_key, flow_of, sub_in, is
 pub use Rattle.afdx_config.specs.Format.{Field, document_fields, end_fields, link_fields, port_fields, only_in_2, field}
 pub use Rattle.afdx_config.specs.Seen.{Adds, cells_in, finding_of, IsDocument, IsSoundTable, data_of, field_of, Holds, Keeps, KeepsOne, IsOrdered, fault_of, AreInRange, plan_in}
 pub use Rattle.afdx_config.specs.declared.document.Document.{Document}
-pub use Rattle.afdx_plan.specs.declared.rows.LinkRow.{LinkRow}
-pub use Rattle.afdx_plan.specs.declared.rows.PortRow.{PortRow}
 pub use Rattle.afdx_config.specs.declared.findings.Place.{Place}
 pub use Rattle.afdx_config.specs.declared.findings.Place.TheVariants.{EndSystem, Link, Port, Top}
 pub use Rattle.afdx_config.specs.declared.format.Content.{Content}
 pub use Rattle.afdx_config.specs.declared.format.Field.{Field as Key}
 pub use Rattle.afdx_config.specs.declared.findings.Found.{Found as Kept}
-pub use Rattle.std.specs.Result.{result_err, result_ok}
 pub use Rattle.afdx_config.specs.Values.{in_network_10, AddressesAreDotted}
 pub use Rattle.std.proofs.Math.Path.{fun_ext}
 pub use Rattle.std.proofs.Math.ListN.{get_or-map}
 pub use Rattle.afdx_config.specs.declared.findings.PlanFinding.{PlanFinding as Written}
 pub use Rattle.afdx_config.specs.declared.format.Content.TheVariants.{Networks, Checksum}
 pub use Rattle.afdx_config.specs.declared.rows.Rows.{Rows}
-pub use Rattle.afdx_plan.specs.Plan.{IsLink, IsPort}
-pub use Rattle.afdx_plan.specs.declared.link_plan.Bag.TheVariants.{Ms1}
-pub use Rattle.afdx_plan.specs.declared.link_plan.Networks.TheVariants.{Both}
-pub use Rattle.afdx_plan.specs.declared.port_plan.Kind.TheVariants.{Sampling}
-pub use Rattle.afdx_plan.specs.declared.port_plan.UdpSum.TheVariants.{Omitted}
 pub use Rattle.afdx_plan.proofs.PlanLemmas.{Unbroken, valid}
 pub use Rattle.std.proofs.lemmas.List.Sums.{sum_by-cons, count_by-le-length, prefix_len-le-length, count_by_more_yes, count_by_more_no}
 pub use Rattle.std.proofs.lemmas.Map.Lookups.{exact_bytes, exact_pairs, exact_unsigned}
 pub use Rattle.afdx_config.specs.declared.explaining.Explanation.{Explanation}
-pub use Rattle.std.specs.BTreeMap.{get, keys}
+pub use Rattle.std.specs.BTreeMap.{keys}

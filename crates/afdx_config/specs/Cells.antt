@@ -1,18 +1,7 @@
 -- The values of links and ports that have no fault, and the plan of a document.
-use Rattle.std.specs.Prelude.{codes, ℕ, map, Bool, is_none, Some, None, option_and_then, unwrap_or, if◌then◌else◌}
-use Rattle.toml.specs.Data.{Members}
-use Rattle.afdx_plan.specs.declared.link_plan.Bag.TheVariants.{Ms1}
-use Rattle.afdx_plan.specs.declared.link_plan.LinkPlan.{LinkPlan}
-use Rattle.afdx_plan.specs.declared.link_plan.Networks.TheVariants.{Both}
-use Rattle.afdx_plan.specs.declared.port_plan.Kind.TheVariants.{Sampling}
-use Rattle.afdx_plan.specs.declared.port_plan.PortPlan.{PortPlan}
-use Rattle.afdx_plan.specs.declared.port_plan.UdpSum.TheVariants.{Omitted}
-use Rattle.afdx_plan.specs.Config.{Plan, plan_of_parts}
-use Rattle.afdx_plan.specs.PlanFaults.{Cells}
+use Rattle.afdx_config.specs.Names.{Bool, Both, Cells, LinkPlan, LinkRow, Members, Ms1, None, Omitted, Plan, PortPlan, PortRow, Sampling, Some, codes, if◌then◌else◌, is_none, map, option_and_then, plan_of_parts, unwrap_or, ℕ}
 use Rattle.afdx_config.specs.declared.format.Content.TheVariants.{Rows}
 use Rattle.afdx_config.specs.Format.{field, capacity_range, id_range, lmax_range, max_range, partition_range, sub_range, subs_range, udp_range}
-use Rattle.afdx_plan.specs.declared.rows.LinkRow.{LinkRow}
-use Rattle.afdx_plan.specs.declared.rows.PortRow.{PortRow}
 use Rattle.afdx_config.specs.Tables.{value_at, number_under, gap_under, networks_under, kind_under, address_under, checksum_under, field_fault, is_version_2, rows_at, section_at}
 
 -- the link of a table in version 2 or 1 of the format

@@ -1,7 +1,5 @@
 -- The explanation of a text.
-use Rattle.std.specs.Prelude.{◌≡◌, ◌≤◌, ◌⊎◌, ℕ, ◌+◌, ◌-◌, List, [], ◌∷◌, ◌++◌, codes, decimal, length, take, count_by, Bool, not, ◌==◌, ◌&&◌, nat_le, nat_lt, if◌then◌else◌, None}
-use Rattle.toml.specs.Data.{Members}
-use Rattle.afdx_plan.specs.declared.fault.ConfigFault.TheVariants.{Toml}
+use Rattle.afdx_config.specs.Names.{Bool, List, Members, None, Toml, [], codes, count_by, decimal, if◌then◌else◌, length, nat_le, nat_lt, not, take, ℕ, ◌&&◌, ◌++◌, ◌+◌, ◌-◌, ◌==◌, ◌∷◌, ◌≡◌, ◌≤◌, ◌⊎◌}
 use Rattle.afdx_config.specs.declared.findings.Place.TheVariants.{Text}
 use Rattle.afdx_config.specs.Faults.{Reads}
 use Rattle.afdx_config.specs.Findings.{PlanFinding, Tells, found, findings, lines_limit}

@@ -1,14 +1,7 @@
 -- The faults of a plan.
-use Rattle.std.specs.Prelude.{◌≡◌, ℕ, ◌<◌, ◌||◌, List, Bool, true, Some, IsUtf8}
-use Rattle.std.specs.List.{list_any}
-use Rattle.toml.specs.Data.{Members}
-use Rattle.toml.specs.Parse.{parse_document}
-use Rattle.afdx_plan.specs.Config.{Plan}
-use Rattle.afdx_plan.specs.PlanFaults.{cells_show, fault_number}
+use Rattle.afdx_config.specs.Names.{Bool, ConfigFault, IsUtf8, List, Members, Plan, Some, Toml, cells_show, fault_number, list_any, parse_document, true, ℕ, ◌<◌, ◌||◌, ◌≡◌}
 use Rattle.afdx_config.specs.Cells.{cells_of, plan_of}
 use Rattle.afdx_config.specs.Findings.{has, value_findings}
-use Rattle.afdx_plan.specs.declared.fault.ConfigFault.{ConfigFault}
-use Rattle.afdx_plan.specs.declared.fault.ConfigFault.TheVariants.{Toml}
 
 -- some value of a document has a fault of 2 to 6
 abbrev pub values_show : ConfigFault → Members → Bool

@@ -1,11 +1,5 @@
 -- Laws of the findings of a document.
-use Rattle.std.specs.Prelude.{◌≡◌, ◌∷◌, [], ◌-◌, ℕ, List, codes, bytes_eq, slice_get, nat_lt, Bool, true, false, ◌&&◌, ◌||◌, not, Option, Some, None, All}
-use Rattle.std.specs.List.{list_any}
-use Rattle.std.specs.Option.{option_map_or}
-use Rattle.toml.specs.Data.{Members}
-use Rattle.afdx_plan.specs.PlanFaults.{plan_shows, PlanRule, Rule, links_clash, ports_clash, port_misfits, link_count, port_count, sub_is_packed, breaks, plan_rules, Cells, is_misfit, is_past_limit}
-use Rattle.afdx_plan.specs.declared.fault.ConfigFault.{ConfigFault}
-use Rattle.afdx_plan.specs.declared.fault.ConfigFault.TheVariants.{UnknownKey}
+use Rattle.afdx_config.specs.Names.{All, Bool, Cells, ConfigFault, List, Members, None, Option, PlanRule, Rule, Some, UnknownKey, [], breaks, bytes_eq, codes, false, is_misfit, is_past_limit, link_count, links_clash, list_any, nat_lt, not, option_map_or, plan_rules, plan_shows, port_count, port_misfits, ports_clash, slice_get, sub_is_packed, true, ℕ, ◌&&◌, ◌-◌, ◌||◌, ◌∷◌, ◌≡◌}
 use Rattle.afdx_config.specs.Cells.{cells_of, plan_of}
 use Rattle.afdx_config.specs.declared.findings.Place.{Place}
 use Rattle.afdx_config.specs.declared.findings.Place.TheVariants.{Text, Top, EndSystem, Link, Port}

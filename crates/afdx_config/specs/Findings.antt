@@ -1,13 +1,5 @@
 -- All faults of a document, each with its place.
-use Rattle.std.specs.Prelude.{◌≡◌, length, take, codes, ℕ, ◌+◌, List, [], ◌∷◌, ◌++◌, nat_lt, bytes_eq, Bool, true, false, ◌==◌, ◌&&◌, ◌||◌, if◌then◌else◌, Option, Some, None, option_map}
-use Rattle.std.specs.List.{position, flat_map, fold}
-use Rattle.std.specs.Option.{option_map_or}
-use Rattle.toml.specs.Data.{Members}
-use Rattle.afdx_plan.specs.PlanFaults.{fault_number, is_row_of, PlanRule, Rule, links_clash, ports_clash, port_misfits, link_count, port_count, sub_is_packed, breaks, plan_rules, Cells, is_misfit, is_past_limit}
-use Rattle.afdx_plan.specs.declared.fault.ConfigFault.{ConfigFault}
-use Rattle.afdx_plan.specs.declared.fault.ConfigFault.TheVariants.{UnknownKey}
-use Rattle.afdx_plan.specs.declared.rows.Misfit.{Misfit}
-use Rattle.afdx_plan.specs.declared.rows.PortRow.{PortRow}
+use Rattle.afdx_config.specs.Names.{Bool, Cells, ConfigFault, List, Members, Misfit, None, Option, PlanRule, PortRow, Rule, Some, UnknownKey, [], breaks, bytes_eq, codes, false, fault_number, flat_map, fold, if◌then◌else◌, is_misfit, is_past_limit, is_row_of, length, link_count, links_clash, nat_lt, option_map, option_map_or, plan_rules, port_count, port_misfits, ports_clash, position, sub_is_packed, take, true, ℕ, ◌&&◌, ◌++◌, ◌+◌, ◌==◌, ◌||◌, ◌∷◌, ◌≡◌}
 use Rattle.afdx_config.specs.declared.findings.Place.{Place}
 use Rattle.afdx_config.specs.declared.findings.Place.TheVariants.{Top, EndSystem, Link, Port}
 use Rattle.afdx_config.specs.Format.{Field, document_fields, end_fields, link_fields, port_fields}

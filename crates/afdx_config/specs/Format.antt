@@ -1,5 +1,5 @@
 -- The format of a plan: the keys of its tables and their values.
-use Rattle.std.specs.Prelude.{codes, ℕ, List, [], ◌∷◌, Bool, true, false}
+use Rattle.afdx_config.specs.Names.{Bool, List, [], codes, false, true, ℕ, ◌∷◌}
 use Rattle.afdx_config.specs.declared.format.Content.{Content}
 use Rattle.afdx_config.specs.declared.format.Content.TheVariants.{Whole, Version, Gap, Networks, PortKind, Address, Checksum, Section, Rows}
 

@@ -1,17 +1,10 @@
 -- The specification values of documents, formats and findings in the code.
-use Rattle.std.specs.Prelude.{◌≡◌, ◌≤◌, ◌++◌, ⊤, List, [], ◌∷◌, length, map, take, string_bytes, Option, Some, None, codes, option_map, All}
-use Rattle.std.specs.List.{AllByRecursion, list_any}
-use Rattle.afdx_plan.specs.declared.fault.ConfigFault.{ConfigFault}
-use Rattle.afdx_plan.specs.PlanFaults.{Cells}
-use Rattle.afdx_plan.specs.Plan.{IsLink, IsPort}
-use Rattle.afdx_plan.specs.Config.{Plan, plan_of_parts}
+use Rattle.afdx_config.specs.Names.{All, AllByRecursion, Cells, ConfigFault, IsLink, IsPort, List, Members, None, Option, Plan, Some, [], codes, length, list_any, map, option_map, plan_of_parts, string_bytes, table_view, take, ⊤, ◌++◌, ◌∷◌, ◌≡◌, ◌≤◌}
 use Rattle.afdx_config.specs.Cells.{link_of, port_of}
 use Rattle.afdx_config.specs.Findings.{PlanFinding, by_fault, is_newer, lines_limit, number_of, told_once}
 use Rattle.afdx_config.specs.declared.rows.Rows.{Rows}
 use Rattle.afdx_config.specs.declared.findings.PlanFinding.{PlanFinding as Written}
 use Rattle.afdx_config.specs.declared.findings.Found.{Found}
-use Rattle.toml.specs.Data.{Members}
-use Rattle.toml.specs.View.{table_view}
 use Rattle.afdx_config.specs.Format.{Field}
 use Rattle.afdx_config.specs.Tables.{field_fault, section_at, rows_at, is_version_2}
 use Rattle.afdx_config.specs.declared.format.Field.{Field as WrittenField}

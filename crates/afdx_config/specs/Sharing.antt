@@ -1,12 +1,5 @@
 -- Rows by their keys, and the keys of ports.
-use Rattle.std.specs.Prelude.{ℕ, ◌+◌, List, [], ◌∷◌, Bool, ◌==◌, ◌&&◌, nat_eq, if◌then◌else◌, Option, Some, None, option_and_then, false}
-use Rattle.std.specs.Cmp.Lexicographic.{slice_cmp}
-use Rattle.std.specs.Option.{option_map_or}
-use Rattle.std.specs.Ordering.{is_eq, nat_cmp, ordering_then}
-use Rattle.std.specs.declared.cmp.Ordering.{Ordering}
-use Rattle.afdx_plan.specs.PlanFaults.{both}
-use Rattle.afdx_plan.specs.declared.rows.PortRow.{PortRow}
-use Rattle.std.specs.List.{position}
+use Rattle.afdx_config.specs.Names.{Bool, List, None, Option, Ordering, PortRow, Some, [], both, false, if◌then◌else◌, is_eq, nat_cmp, nat_eq, option_and_then, option_map_or, ordering_then, position, slice_cmp, ℕ, ◌&&◌, ◌+◌, ◌==◌, ◌∷◌}
 
 -- five values, if there is each
 abbrev pub all_five : {A B C D E : Type 0} → Option A → Option B → Option C → Option D → Option E

@@ -1,23 +1,9 @@
 -- The tables of a document, values of them by key, and the faults of these.
-use Rattle.std.specs.Prelude.{ℕ, ℤ, pos, negsuc, nat_lt, List, [], ◌∷◌, Bool, ◌||◌, if◌then◌else◌, Option, option_and_then, codes, false, not, ◌==◌, is_none, bytes_eq, Some, None, Result, Ok, Err, ok_or}
-use Rattle.std.specs.List.{cons_option, list_any}
-use Rattle.std.specs.Option.{option_map_or}
-use Rattle.toml.specs.Data.{Items, no_items, item, Members, no_members, member, get_member, as_integer, as_str, as_table, Data, as_array}
-use Rattle.std.specs.Bool.{then_some}
-use Rattle.afdx_plan.specs.PlanFaults.{fault_number}
-use Rattle.afdx_plan.specs.declared.fault.ConfigFault.{ConfigFault}
-use Rattle.afdx_plan.specs.declared.fault.ConfigFault.TheVariants.{MissingKey, UnknownKey, WrongKind, OutOfRange, BadBag}
+use Rattle.afdx_config.specs.Names.{BadBag, Bag, Bool, Both, ConfigFault, Data, Err, Items, Kind, List, Members, MissingKey, Networks as Nets, None, Ok, Omitted, Option, OutOfRange, Result, Some, UdpSum, UnknownKey, WrongKind, [], as_array, as_integer, as_str, as_table, bytes_eq, codes, cons_option, false, fault_number, get_member, if◌then◌else◌, is_none, item, list_any, member, nat_lt, negsuc, no_items, no_members, not, ok_or, option_and_then, option_map_or, pos, result_err, result_ok, then_some, ℕ, ℤ, ◌==◌, ◌||◌, ◌∷◌}
 use Rattle.afdx_config.specs.declared.format.Content.{Content}
 use Rattle.afdx_config.specs.declared.format.Content.TheVariants.{Whole, Version, Gap, Networks, PortKind, Address, Checksum, Section, Rows}
 use Rattle.afdx_config.specs.Values.{bag_of, networks_of, kind_of, unicast_of, checksum_of}
 use Rattle.afdx_config.specs.Format.{Field}
-use Rattle.std.specs.Result.{result_ok, result_err}
-use Rattle.afdx_plan.specs.declared.link_plan.Bag.{Bag}
-use Rattle.afdx_plan.specs.declared.link_plan.Networks.{Networks as Nets}
-use Rattle.afdx_plan.specs.declared.link_plan.Networks.TheVariants.{Both}
-use Rattle.afdx_plan.specs.declared.port_plan.Kind.{Kind}
-use Rattle.afdx_plan.specs.declared.port_plan.UdpSum.{UdpSum}
-use Rattle.afdx_plan.specs.declared.port_plan.UdpSum.TheVariants.{Omitted}
 
 -- a number of a range
 abbrev pub in_range : ℕ × ℕ → ℤ → Option ℕ

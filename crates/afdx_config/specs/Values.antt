@@ -1,15 +1,5 @@
 -- Values of a plan in texts.
-use Rattle.std.specs.Prelude.{ℕ, ℤ, pos, negsuc, ◌==◌, if◌then◌else◌, List, [], ◌∷◌, codes, bytes_eq, Option, Some, None, option_and_then, option_map, ◌≡◌, ◌↔◌, slice_index}
-use Rattle.std.specs.Net.Reader.{read_ipv4}
-use Rattle.std.specs.Net.Grammar.{IsDotted}
-use Rattle.afdx_plan.specs.declared.link_plan.Bag.{Bag}
-use Rattle.afdx_plan.specs.declared.link_plan.Bag.TheVariants.{Ms1, Ms2, Ms4, Ms8, Ms16, Ms32, Ms64, Ms128}
-use Rattle.afdx_plan.specs.declared.port_plan.Kind.{Kind}
-use Rattle.afdx_plan.specs.declared.port_plan.Kind.TheVariants.{Sampling, Queuing}
-use Rattle.afdx_plan.specs.declared.port_plan.UdpSum.{UdpSum}
-use Rattle.afdx_plan.specs.declared.port_plan.UdpSum.TheVariants.{Omitted, Generated}
-use Rattle.afdx_plan.specs.declared.link_plan.Networks.{Networks}
-use Rattle.afdx_plan.specs.declared.link_plan.Networks.TheVariants.{Both, OnlyA, OnlyB}
+use Rattle.afdx_config.specs.Names.{Bag, Both, Generated, IsDotted, Kind, List, Ms1, Ms128, Ms16, Ms2, Ms32, Ms4, Ms64, Ms8, Networks, None, Omitted, OnlyA, OnlyB, Option, Queuing, Sampling, Some, UdpSum, [], bytes_eq, codes, if◌then◌else◌, negsuc, option_and_then, option_map, pos, read_ipv4, slice_index, ℕ, ℤ, ◌==◌, ◌↔◌, ◌∷◌, ◌≡◌}
 
 -- the BAG of a number of milliseconds
 unfoldable pub bag_of : ℤ → Option Bag

@@ -1,7 +1,5 @@
 //! All faults of a plan, each with its place.
-ghost use Rattle.std.specs.Prelude.{◌≡◌, ◌∷◌, [], List, map, IfOk};
-ghost use Rattle.toml.specs.Errors.{IsWithin};
-ghost use Rattle.toml.specs.View.{table_view};
+ghost use Rattle.afdx_config.specs.Names.{IfOk, IsWithin, List, [], map, table_view, ◌∷◌, ◌≡◌};
 ghost use Rattle.afdx_config.specs.Explained.{column_after, line_of, Explains, HasLines, TellsToml, stop_finding};
 ghost use Rattle.afdx_config.specs.Findings.{PlanFinding as Finding, Tells, findings};
 ghost use Rattle.afdx_config.specs.Seen.{finding_of};

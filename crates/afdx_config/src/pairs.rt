@@ -1,11 +1,8 @@
 //! Tables that clash with an earlier one, found in the time of sorting them.
-ghost use Rattle.std.specs.Prelude.{◌≡◌, ℕ, map, slice_get, option_copied, IfOk, option_and_then, ◌+◌, ◌^◌, ◌<◌, OnOk, List};
-ghost use Rattle.std.specs.List.{position};
-ghost use Rattle.std.specs.BTreeMap.{get};
+ghost use Rattle.afdx_config.specs.Names.{IfOk, List, OnOk, get, map, option_and_then, option_copied, position, share_unicast, slice_get, ℕ, ◌+◌, ◌<◌, ◌^◌, ◌≡◌};
 ghost use Rattle.afdx_config.specs.Sharing.{is_key, first_row, flow_of, address_of, address_cmp, first_at, off_link, sharing_place};
 ghost use Rattle.afdx_config.specs.Findings.{each_row, pair_finding, row_like, pair_findings};
 ghost use Rattle.afdx_config.specs.Seen.{Adds};
-ghost use Rattle.afdx_plan.specs.PlanFaults.{share_unicast};
 ghost use Rattle.afdx_config.specs.declared.findings.Place.TheVariants.{Port};
 
 use crate::findings::{Added, Found, Place, add, row_like};

@@ -1,15 +1,9 @@
 //! The faults of 7 to 14 with their places, in the values that have no fault, and all faults of a document.
-ghost use Rattle.std.specs.Prelude.{◌≡◌, codes, ℕ, ◌+◌, ◌++◌, ◌^◌, ◌<◌, if◌then◌else◌, unwrap_or, OnOk, IfOk, ◌&&◌, map, length, is_none, option_copied, option_map, IfSome, None};
-ghost use Rattle.std.specs.BTreeMap.{get};
-ghost use Rattle.afdx_plan.specs.declared.fault.ConfigFault.{ConfigFault};
-ghost use Rattle.std.specs.Option.{option_map_or};
+ghost use Rattle.afdx_config.specs.Names.{ConfigFault, IfOk, IfSome, None, OnOk, all_named, codes, get, if◌then◌else◌, is_no_count, is_none, is_row_of, length, list_any, map, misfits, nat_cmp, option_copied, option_map, option_map_or, position, unwrap_or, ℕ, ◌&&◌, ◌++◌, ◌+◌, ◌<◌, ◌^◌, ◌≡◌};
 ghost use Rattle.afdx_config.specs.Cells.{cells_of, plan_of};
 ghost use Rattle.afdx_config.specs.Findings.{crowd_finding, each_row, found as finding_at, misfit_finding, one_if, plan_findings, value_findings};
 ghost use Rattle.afdx_config.specs.Seen.{Adds, AreInRange, IsDocument, cells_in, data_of, plan_in};
 ghost use Rattle.afdx_config.specs.Sharing.{sub_in, sub_cmp, is_on_sub, is_key};
-ghost use Rattle.std.specs.List.{position, list_any};
-ghost use Rattle.std.specs.Ordering.{nat_cmp};
-ghost use Rattle.afdx_plan.specs.PlanFaults.{all_named, is_no_count, is_row_of, misfits};
 ghost use Rattle.afdx_config.specs.declared.findings.Place.TheVariants.{Top};
 
 use crate::document::Document;

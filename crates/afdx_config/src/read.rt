@@ -1,7 +1,5 @@
 //! Reading a plan.
-ghost use Rattle.std.specs.Prelude.{◌≡◌, ◌≢◌, All, List, Some, [], map, IfOk, IfErr};
-ghost use Rattle.afdx_plan.specs.declared.fault.ConfigFault.{ConfigFault};
-ghost use Rattle.afdx_plan.specs.Config.{IsPlan};
+ghost use Rattle.afdx_config.specs.Names.{All, ConfigFault, IfErr, IfOk, IsPlan, List, Some, [], map, ◌≡◌, ◌≢◌};
 ghost use Rattle.afdx_config.specs.Cells.{plan_of};
 ghost use Rattle.afdx_config.specs.Faults.{IsPlanOf, IsLeastFault};
 ghost use Rattle.afdx_config.specs.Findings.{PlanFinding, by_fault, findings, told_once};

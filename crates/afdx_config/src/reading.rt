@@ -1,12 +1,6 @@
 //! The values of tables, each read once: a value, or its fault.
-ghost use Rattle.std.specs.Prelude.{◌≡◌, ◌≤◌, ◌==◌, ℕ, List, codes, if◌then◌else◌, is_none, option_map, slice_index, IfOk, IfSome, Option, Some, None, Err};
-ghost use Rattle.std.specs.List.{list_any};
-ghost use Rattle.toml.specs.Data.{as_integer, as_str, as_table, get_member};
-ghost use Rattle.toml.specs.View.{table_view, view};
+ghost use Rattle.afdx_config.specs.Names.{ConfigFault, Err, IfOk, IfSome, IsUnicast, List, MissingKey, None, Option, Some, WrongKind, as_integer, as_str, as_table, codes, get_member, if◌then◌else◌, is_none, list_any, option_map, slice_index, table_view, view, ℕ, ◌==◌, ◌≡◌, ◌≤◌};
 ghost use Rattle.afdx_config.specs.declared.format.Content.{Content};
-ghost use Rattle.afdx_plan.specs.declared.fault.ConfigFault.{ConfigFault};
-ghost use Rattle.afdx_plan.specs.declared.fault.ConfigFault.TheVariants.{MissingKey, WrongKind};
-ghost use Rattle.afdx_plan.specs.Plan.{IsUnicast};
 ghost use Rattle.afdx_config.specs.Tables.{address_under, content_fault, in_range, number_under, gap_under, read, version_under};
 ghost use Rattle.afdx_config.specs.Values.{address_of, bag_of, networks_of, kind_of, checksum_of};
 

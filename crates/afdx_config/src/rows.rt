@@ -1,16 +1,11 @@
 //! The values of a document, read once, and the findings of its keys.
-ghost use Rattle.std.specs.Prelude.{◌≡◌, ◌≤◌, Bool, List, if◌then◌else◌, map, IfOk, IfSome, OnOk, Ok, [], All, codes};
-ghost use Rattle.std.specs.Result.{result_ok, result_err};
-ghost use Rattle.toml.specs.Data.{Members, get_member};
-ghost use Rattle.toml.specs.View.{table_view};
+ghost use Rattle.afdx_config.specs.Names.{All, Bool, IfOk, IfSome, IsLink, IsPort, List, Members, Ok, OnOk, [], codes, get_member, if◌then◌else◌, map, option_map_or, result_err, result_ok, table_view, ◌≡◌, ◌≤◌};
 ghost use Rattle.afdx_config.specs.declared.format.Content.{Content};
 ghost use Rattle.afdx_config.specs.Cells.{link_of, link_row, port_of, port_row, cells_of, end_system_of};
 ghost use Rattle.afdx_config.specs.Findings.{key_finding, field_findings, each_row, key_findings, row_like, table_findings, value_findings};
 ghost use Rattle.afdx_config.specs.Format.{Field as Key, link_fields, port_fields, document_fields, end_fields, id_range};
 ghost use Rattle.afdx_config.specs.Seen.{Adds, field_of, AreInRange, cells_in, IsDocument, data_of};
 ghost use Rattle.afdx_config.specs.Tables.{content_fault, number_under, value_at, section_at};
-ghost use Rattle.afdx_plan.specs.Plan.{IsLink, IsPort};
-ghost use Rattle.std.specs.Option.{option_map_or};
 ghost use Rattle.afdx_config.specs.declared.findings.Place.TheVariants.{Top, EndSystem};
 
 use crate::document::Document;
