@@ -91,14 +91,6 @@ fn start_of(line: &str) -> Start<'_> {
     start.unwrap_or(Start::Unusual)
 }
 
-/// Keeps the line of a spot, if it is the first one.
-fn keep<'a>(lines: &mut Lines<'a>, spot: Spot<'a>, line: usize) -> Result<(), AllocError> {
-    if lines.get(&spot).is_none() {
-        lines.insert(spot, line)?;
-    }
-    Ok(())
-}
-
 /// The numbers of tables of links and of ports that have begun.
 #[derive(Clone, Copy)]
 struct Begun {
@@ -134,12 +126,12 @@ pub(crate) fn lines_of(alloc: Global, text: &[u8]) -> Result<Lines<'_>, AllocErr
         match start_of(line) {
             Start::Nothing => {}
             Start::Header(name, is_row) => {
-                keep(&mut lines, (TOP, name), line_number)?;
+                lines.entry((TOP, name))?.or_insert(line_number);
                 table = table_of(&mut begun, name, is_row);
-                keep(&mut lines, (table, ""), line_number)?;
+                lines.entry((table, ""))?.or_insert(line_number);
             }
             Start::Key(key, is_whole) => {
-                keep(&mut lines, (table, key), line_number)?;
+                lines.entry((table, key))?.or_insert(line_number);
                 if !is_whole {
                     break;
                 }

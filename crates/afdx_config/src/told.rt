@@ -112,12 +112,6 @@ fn fields_at(is_2: bool, place: Place) -> &'static [Field] {
     }
 }
 
-/// Returns the content of a finding's key.
-fn content_at(document: &Document<'_>, finding: &PlanFinding) -> Option<Content> {
-    let fields = fields_at(document.is_2, finding.place);
-    field_named(fields, finding.key.as_str()).map(|field| field.1)
-}
-
 /// Writes the values that a content allows.
 fn write_content(out: &mut Text, content: Content) -> Result<()> {
     let text = match content {
@@ -207,29 +201,20 @@ fn write_bound(
     write_subject(out, document, Place::Link(k), key)
 }
 
-/// Writes the header to use if a single table stands in the place of an array of tables.
-fn write_brackets(
-    out: &mut Text,
-    document: &Document<'_>,
-    finding: &PlanFinding,
-    content: Content,
-) -> Result<()> {
-    let key = finding.key.as_str();
-    match (content, value_at(document.top, key)) {
-        (Content::Rows, Some(Value::Table(_))) => write!(out, ": write [[{key}]]"),
-        _ => Ok(()),
-    }
-}
-
-/// Writes the values that are allowed at the key of a finding.
+/// Writes the values that are allowed at the key of a finding. If a single table stands in the place of an array of
+/// tables, writes the header to use.
 fn write_allowed(out: &mut Text, document: &Document<'_>, finding: &PlanFinding) -> Result<()> {
-    let content = content_at(document, finding);
+    let key = finding.key.as_str();
+    let content = field_named(fields_at(document.is_2, finding.place), key).map(|field| field.1);
     let link = finding.other;
     match (finding.fault, content) {
         (ConfigFault::UnknownKey, _) => write_known(out, document, finding),
         (ConfigFault::WrongKind, Some(content)) => {
             write!(out, "{} is wanted", kind_text(content))?;
-            write_brackets(out, document, finding, content)
+            match (content, value_at(document.top, key)) {
+                (Content::Rows, Some(Value::Table(_))) => write!(out, ": write [[{key}]]"),
+                _ => Ok(()),
+            }
         }
         (ConfigFault::NoSuchVl, _) => out.write_all(b"no vl has this id"),
         (ConfigFault::NoSuchSub, _) => {
@@ -238,7 +223,7 @@ fn write_allowed(out: &mut Text, document: &Document<'_>, finding: &PlanFinding)
         (ConfigFault::SamplingTooLong, _) => {
             write_bound(out, document, link, "at most lmax - 47 of its vl", "lmax")
         }
-        (ConfigFault::Limit, _) => out.write_all(limit_text(finding.key.as_str()).as_bytes()),
+        (ConfigFault::Limit, _) => out.write_all(limit_text(key).as_bytes()),
         (_, Some(content)) => write_content(out, content),
         (_, None) => Ok(()),
     }
@@ -287,14 +272,6 @@ fn write_finding(
     out.write_all(b"\n")
 }
 
-/// Writes the file of a finding, and its line, if that is known.
-fn write_origin(out: &mut Text, name: &str, line: Option<usize>) -> Result<()> {
-    match line {
-        Some(line) => write!(out, "{name}:{line}: "),
-        None => write!(out, "{name}: "),
-    }
-}
-
 /// Returns the lines of findings in a text.
 fn told_lines(
     alloc: Global,
@@ -306,8 +283,10 @@ fn told_lines(
     let mut out = Vec::new(alloc);
     let lines = lines_of(alloc, if name.is_some() { text } else { b"" })?;
     for finding in findings {
-        if let Some(name) = name {
-            write_origin(&mut out, name, line_of(&lines, finding))?;
+        match (name, line_of(&lines, finding)) {
+            (Some(name), Some(line)) => write!(out, "{name}:{line}: ")?,
+            (Some(name), None) => write!(out, "{name}: ")?,
+            (None, _) => {}
         }
         write_finding(&mut out, document, finding)?;
     }
