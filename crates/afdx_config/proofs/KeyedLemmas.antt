@@ -1,27 +1,13 @@
 -- Rows by their keys.
-use Rattle.afdx_config.proofs.Names.{fun_ext, ◌≡◌, ℕ, ◌+◌, ◌-◌, ◌<◌, ◌≤◌, List, [], ◌∷◌, length, drop, get_or, cond, Bool, false, Option, Some, None, refl, ap, sym, ◌∙◌, arith, drop_more, drop_all, map, nat_eq, position, position_from, position_from-zero, option_map_or, nat_cmp, nat_tests, Ordering, both, is_key, first_row, each_row, pair_finding, pair_findings, ConfigFault, Place, is_eq, bytes_eq, slice_cmp, is_eq-slice_cmp, find, find_at, position_or_len, option_and_then, slice_get, PortRow, LinkRow, is_row_of, slice_get_past, IfSome, position-Some}
+use Rattle.afdx_config.proofs.Names.{fun_ext, ◌≡◌, ℕ, ◌+◌, ◌<◌, List, [], ◌∷◌, length, Bool, false, Option, None, refl, ap, sym, ◌∙◌, arith, map, nat_eq, position, position_from, position_from-zero, option_map_or, nat_cmp, nat_tests, Ordering, both, is_key, first_row, each_row, pair_finding, pair_findings, ConfigFault, Place, is_eq, bytes_eq, slice_cmp, is_eq-slice_cmp, find, find_at, position_or_len, option_and_then, slice_get, PortRow, LinkRow, is_row_of, slice_get_past, IfSome, position-Some}
 use Rattle.afdx_config.proofs.AddLemmas.{each_row-map}
-
--- the first row from the one before i on
-pub first_from : {A : Type 0} (test : A → Bool) (rows : List A) (i : ℕ) (d x : A) → 0 < i → i ≤ length rows → get_or rows (i - 1) d ≡ x
-    → position_from test (i - 1) (drop (i - 1) rows) ≡ cond (test x) (Some (i - 1)) (position_from test i (drop i rows))
-first_from test rows i d x some within is = grind (arith, nat_tests, drop_more)
-
--- no row is left past the last one
-pub none_left : {A : Type 0} (test : A → Bool) (rows : List A) → position_from test (length rows) (drop (length rows) rows) ≡ None
-none_left test rows = rw (drop_all (length rows) rows (omega arith)) refl
-
--- all rows were looked at
-pub all_left : {A : Type 0} (test : A → Bool) (rows : List A) (i : ℕ) (o : Option ℕ) → i ≤ 0 → o ≡ position_from test i (drop i rows)
-    → o ≡ position test rows
-all_left test rows i o at is = let zero : i ≡ 0 = omega arith in rw zero at is ∙ sym (position_from-zero test rows)
 
 from_map : {A B : Type 0} (p : B → Bool) (f : A → B) (k : ℕ) (rows : List A) → position_from p k (map f rows) ≡ position_from (λ x. p (f x)) k rows
 from_map p f k [] = refl
 from_map p f k (x ∷ xs) = rw (from_map p f (k + 1) xs) refl
 
-pub position_map : {A B : Type 0} (p : B → Bool) (f : A → B) (rows : List A) → position p (map f rows) ≡ position (λ x. p (f x)) rows
-position_map p f rows = position_from-zero p (map f rows) ∙ from_map p f 0 rows ∙ sym (position_from-zero (λ x. p (f x)) rows)
+pub position_map : {A B : Type 0} (p : B → Bool) (f : A → B) (rows : List A) → position_from p 0 (map f rows) ≡ position (λ x. p (f x)) rows
+position_map p f rows = from_map p f 0 rows ∙ sym (position_from-zero (λ x. p (f x)) rows)
 
 from_none : {A : Type 0} (k : ℕ) (rows : List A) → position_from (λ x. false) k rows ≡ None
 from_none k [] = refl
@@ -58,7 +44,7 @@ find_place p rows = grind (arith, nat_tests, find_at p rows, slice_get_past rows
 
 -- the link of a port, found by its identifier
 pub link_found : (links : List LinkRow) (by_id : ℕ → Option ℕ) (port : PortRow)
-    → ((q : ℕ) → by_id q ≡ position (is_key nat_cmp q) (map (λ (l : LinkRow). l.id) links))
+    → ((q : ℕ) → by_id q ≡ position_from (is_key nat_cmp q) 0 (map (λ (l : LinkRow). l.id) links))
     → option_and_then by_id port.vl ≡ position (is_row_of port) links
 link_found links by_id port is = ap (λ f. option_and_then f port.vl) (fun_ext is)
     ∙ row_is nat_cmp (λ (l : LinkRow). l.id) links (is_row_of port) port.vl (λ l. same_number l.id port.vl)

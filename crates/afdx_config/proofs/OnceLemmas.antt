@@ -1,5 +1,5 @@
 -- Findings of which one cause is told once.
-use Rattle.afdx_config.proofs.Names.{◌≡◌, List, [], ◌∷◌, ◌++◌, Bool, true, false, ◌||◌, ◌&&◌, ◌==◌, refl, ap, sym, ◌∙◌, arith, nat_tests, AllByRecursion, list_any, list_any-append, or-false, UnknownKey, fault_number, ConfigFault, PlanFinding, has, Adds, Kept, KeepsOne, is_newer, once_after, told_once}
+use Rattle.afdx_config.proofs.Names.{◌≡◌, List, [], ◌∷◌, ◌++◌, Bool, true, false, ◌||◌, ◌&&◌, ◌==◌, refl, sym, ◌∙◌, arith, nat_tests, AllByRecursion, list_any, list_any-append, or-false, UnknownKey, fault_number, ConfigFault, PlanFinding, has, Adds, Kept, KeepsOne, is_newer, once_after, told_once}
 
 -- one more finding, which is told
 pub told_more : (told : Bool) (xs : List PlanFinding) (x : PlanFinding) → ((told || list_any is_newer xs) && is_newer x) ≡ false
@@ -20,29 +20,19 @@ pub r_once : (P : PlanFinding → Type 0) (told : Bool) (xs : List PlanFinding) 
 r_once P told [] each = each
 r_once P told (x ∷ xs) each = grind (arith, nat_tests, r_once P told xs each.1, r_once P (told || is_newer x) xs each.1)
 
+-- what isn't told has the fault of what was told
+same_fault : (f : ConfigFault) (x : PlanFinding) → is_newer x ≡ true → has f x ≡ (fault_number f == fault_number UnknownKey)
+same_fault f x new = grind (arith, nat_tests)
+
+other_fault : (f : ConfigFault) (xs : List PlanFinding) → (fault_number f == fault_number UnknownKey) ≡ false
+    → list_any (has f) (once_after true xs) ≡ list_any (has f) xs
+other_fault f [] not = refl
+other_fault f (x ∷ xs) not = grind (arith, nat_tests, same_fault f x, other_fault f xs not)
+
 -- a fault that a finding has, one that is told has
 pub any_once : (f : ConfigFault) (xs : List PlanFinding) → list_any (has f) (told_once xs) ≡ list_any (has f) xs
 any_once f [] = refl
-any_once f (x ∷ xs) = by_test (any_once f xs) (is_newer x) refl
-  where
-    -- what isn't told has the fault of what was told
-    same : (y : PlanFinding) → is_newer y ≡ true → has f y ≡ (fault_number f == fault_number UnknownKey)
-    same y new = grind (arith, nat_tests)
-
-    other : (ys : List PlanFinding) → (fault_number f == fault_number UnknownKey) ≡ false
-        → list_any (has f) (once_after true ys) ≡ list_any (has f) ys
-    other [] not = refl
-    other (y ∷ ys) not = grind (arith, nat_tests, same y, other ys not)
-
-    by_number : (b : Bool) → (fault_number f == fault_number UnknownKey) ≡ b → is_newer x ≡ true
-        → (has f x || list_any (has f) (once_after true xs)) ≡ (has f x || list_any (has f) xs)
-    by_number true is new = rw (same x new, is) refl
-    by_number false is new = ap (λ b. has f x || b) (other xs is)
-
-    by_test : list_any (has f) (told_once xs) ≡ list_any (has f) xs → (b : Bool) → is_newer x ≡ b
-        → (has f x || list_any (has f) (once_after b xs)) ≡ (has f x || list_any (has f) xs)
-    by_test rest true new = by_number (fault_number f == fault_number UnknownKey) refl new
-    by_test rest false new = ap (λ b. has f x || b) rest
+any_once f (x ∷ xs) = grind (arith, nat_tests, same_fault f x, other_fault f xs, any_once f xs)
 
 pub no_once : (xs : List PlanFinding) → told_once xs ≡ [] → xs ≡ []
 no_once [] is = refl

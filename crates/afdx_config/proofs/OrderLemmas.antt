@@ -1,5 +1,5 @@
 -- Findings in the order of the numbers of their faults.
-use Rattle.afdx_config.proofs.Names.{fold-append, common_steps, length-take, map-append, drop-map, take-append-le, take-take, fold, insert, ◌≡◌, ℕ, zero, suc, ◌+◌, ◌≤◌, List, [], ◌∷◌, ◌++◌, length, take, drop, map, Bool, true, false, ◌||◌, cond, refl, ap, sym, ◌∙◌, arith, take_all, take-map, length-map, fault_number, AllByRecursion, list_any, nat_lt, nat_tests, or-false, PlanFinding, KeepsOne, finding_of, by_fault, lines_limit, number_of, put, IsOrdered, Written, Kept, nat_le, prefix_len, prefix_len-le-length}
+use Rattle.afdx_config.proofs.Names.{fold-append, common_steps, length-take, map-append, drop-map, take-append-le, take-take, fold, insert, ◌≡◌, ℕ, zero, suc, ◌+◌, ◌≤◌, List, [], ◌∷◌, ◌++◌, length, take, drop, map, Bool, true, ◌||◌, refl, ap, sym, ◌∙◌, arith, take_all, take-map, length-map, fault_number, AllByRecursion, list_any, nat_tests, or-false, PlanFinding, KeepsOne, finding_of, by_fault, lines_limit, number_of, put, IsOrdered, Written, Kept, nat_le, prefix_len, prefix_len-le-length}
 
 -- what holds of each element of two lists holds of those of both
 pub r_append : {A : Type 0} (P : A → Type 0) (xs ys : List A) → AllByRecursion P xs → AllByRecursion P ys → AllByRecursion P (xs ++ ys)
@@ -54,12 +54,7 @@ no_finding (x ∷ xs) is = let none = ap (list_any (λ y. true)) is in let any =
 take_put : (k : ℕ) (ys : List PlanFinding) (x : PlanFinding) → take k (put (take k ys) x) ≡ take k (put ys x)
 take_put zero ys x = refl
 take_put (suc k) [] x = refl
-take_put (suc k) (y ∷ ys) x = here (nat_lt (number_of x) (number_of y)) (take_put k ys x)
-  where
-    here : (b : Bool) → take k (put (take k ys) x) ≡ take k (put ys x)
-        → take (suc k) (cond b (x ∷ y ∷ take k ys) (y ∷ put (take k ys) x)) ≡ take (suc k) (cond b (x ∷ y ∷ ys) (y ∷ put ys x))
-    here true rest = ap (λ s. x ∷ s) (take-take k (suc k) (y ∷ ys) (omega arith))
-    here false rest = ap (λ s. y ∷ s) rest
+take_put (suc k) (y ∷ ys) x = let head = take-take k (suc k) (y ∷ ys) (omega arith) in grind (arith, nat_tests, head, take_put k ys x)
 
 -- the index of a finding among those that are written
 abbrev pub index_in : List Written → PlanFinding → ℕ

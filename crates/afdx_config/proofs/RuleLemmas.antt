@@ -1,37 +1,21 @@
 -- A document whose values have no fault has the faults of its plan.
-use Rattle.afdx_config.proofs.Names.{◌≡◌, ◌<◌, List, [], ◌∷◌, Bool, false, map, refl, ap, sym, ◌∙◌, AllByRecursion, list_any, ◌||◌, ◌&&◌, ◌==◌, is_none, Members, Plan, cells_of, cells_show, plan_of, PlanRule, breaks, link_whole, port_whole, whole, plan_rules, Top, Link, Port, document_fields, link_fields, port_fields, is_version_2, IsSoundTable, RulesAgree, PlanFinding, ConfigFault, eq-eqb, fault_number, findings, has, codes, link_of, port_of, get_member, plan_shows, None, or_parts, All-map, Networks, Checksum, field, networks_under, checksum_under, AreInRange, plan_in, Rows, IsPlan, IsLink, IsPort, Ms1, Both, Sampling, Omitted, Unbroken, valid}
+use Rattle.afdx_config.proofs.Names.{arith, nat_tests, true, ◌≡◌, ◌<◌, List, [], ◌∷◌, Bool, false, map, refl, ap, sym, ◌∙◌, AllByRecursion, list_any, ◌||◌, ◌&&◌, ◌==◌, is_none, Members, Plan, cells_of, cells_show, plan_of, PlanRule, breaks, link_whole, port_whole, whole, plan_rules, Top, Link, Port, document_fields, link_fields, port_fields, is_version_2, IsSoundTable, RulesAgree, PlanFinding, ConfigFault, eq-eqb, fault_number, findings, has, link_of, port_of, plan_shows, All-map, AreInRange, plan_in, Rows, IsPlan, IsLink, IsPort, Unbroken, valid}
 use Rattle.afdx_config.specs.Cells.{link_row, port_row}
 use Rattle.afdx_config.specs.Findings.{value_findings}
 use Rattle.afdx_config.proofs.FirstLemmas.{no_value}
 use Rattle.afdx_config.proofs.ShownLemmas.{faults_are_found}
-use Rattle.afdx_config.proofs.SoundLemmas.{known, known_in, none, rows_sound, table_sound}
+use Rattle.afdx_config.proofs.SoundLemmas.{known, none, rows_sound, table_sound}
 
 -- a table without faults has all its values
 link_is : (is_2 : Bool) (m : Members) → IsSoundTable (link_fields is_2) m → link_row is_2 m ≡ link_whole (link_of (link_row is_2 m))
 unfolding link_row
-link_is is_2 m (id, (bag, (lmax, (subs, (capacity, last))))) = rw (
-  known _ 0 id,
-  known _ Ms1 bag,
-  known _ 64 lmax,
-  known _ 1 subs,
-  known _ 1 capacity,
-  known_in is_2 (field (codes "networks") Networks) m (networks_under (get_member (codes "networks") m)) Both refl last,
-) refl
+link_is true m sound = grind (arith, known)
+link_is false m sound = grind (arith, known)
 
 port_is : (is_2 : Bool) (m : Members) → IsSoundTable (port_fields is_2) m → port_row is_2 m ≡ port_whole (port_of (port_row is_2 m))
 unfolding port_row
-port_is is_2 m (id, (vl, (sub, (part, (kind, (source, (dest, (max, (ip, last))))))))) = rw (
-  known _ 0 id,
-  known _ 0 vl,
-  known _ 0 sub,
-  known _ 0 part,
-  known _ Sampling kind,
-  known _ 1 source,
-  known _ 1 dest,
-  known _ 1 max,
-  known _ None ip,
-  known_in is_2 (field (codes "checksum") Checksum) m (checksum_under (get_member (codes "checksum") m)) Omitted refl last,
-) refl
+port_is true m sound = grind (arith, known)
+port_is false m sound = grind (arith, known)
 
 rows_are : {R P : Type 0} (f : Members → R) (g : R → P) (w : P → R) (Is : Members → Type 0) (rows : List Members)
     → ((m : Members) → Is m → f m ≡ w (g (f m))) → AllByRecursion Is rows → map f rows ≡ map w (map g (map f rows))
@@ -64,9 +48,8 @@ no_rule : (plan : Plan) (some : List PlanRule)
     → ((f : ConfigFault) → list_any (λ (r : PlanRule). fault_number f == fault_number r.fault
     && breaks (whole plan) r.forbids) some ≡ false) → Unbroken plan some
 no_rule plan [] lacks = tt
-no_rule plan (r ∷ rest) lacks =
-    let number = eq-eqb (fault_number r.fault) (fault_number r.fault) refl in
-    ((or_parts _ _ (rw number at (lacks r.fault))).0, no_rule plan rest (λ f. (or_parts _ _ (lacks f)).1))
+no_rule plan (r ∷ rest) lacks = let here = lacks r.fault in
+    (grind (arith, nat_tests), no_rule plan rest (λ f. let this = lacks f in grind (arith, nat_tests)))
 
 -- the plan of a document without findings is valid if it is in its ranges
 pub fine : (doc : Members) (rows : Rows) → plan_in rows ≡ plan_of doc → rows.end_system < 65536 → AreInRange rows → findings doc ≡ []

@@ -1,5 +1,5 @@
 -- Ports with the same keys.
-use Rattle.afdx_config.proofs.Names.{fun_ext, ◌≡◌, ℕ, List, [], ◌∷◌, Bool, true, false, ◌&&◌, Option, Some, None, refl, ap, sym, ◌∙◌, arith, option_map_or, nat_eq, eq-eqb, nat_cmp, is_eq, Ordering, ordering_then, both_tied, and-false, slice_cmp, option_cmp, not, ◌==◌, position, position_from, position_from-zero, get_or, eqb-true, share_unicast, cond, length, ◌<◌, both, is_key, PortRow, same_flow, flow_of, are_one_destination, are_one_address, on_sub_of, ◌-◌, nat_le, one_if, found, Limit, Port, codes, crowd_finding, Equal, ◌+◌, ◌^◌, take, count_by, add-zero, count_by-le-length, count_by_more_yes, count_by_more_no, exact_bytes, exact_pairs, exact_unsigned, sub_in, is_on_sub, all_five, address_in, address_of, address_cmp, first_at, off_link, sharing_place, nat_tests}
+use Rattle.afdx_config.proofs.Names.{fun_ext, ◌≡◌, ℕ, List, [], ◌∷◌, Bool, true, false, ◌&&◌, Option, Some, None, refl, ap, ◌∙◌, arith, option_map_or, nat_eq, eq-eqb, nat_cmp, is_eq, Ordering, ordering_then, both_tied, and-false, slice_cmp, option_cmp, not, ◌==◌, position, position_from, position_from-zero, get_or, eqb-true, share_unicast, cond, length, ◌<◌, both, is_key, PortRow, same_flow, flow_of, are_one_destination, are_one_address, on_sub_of, ◌-◌, nat_le, one_if, found, Limit, Port, codes, crowd_finding, Equal, ◌+◌, ◌^◌, take, count_by, add-zero, count_by-le-length, count_by_more_yes, count_by_more_no, exact_bytes, exact_pairs, exact_unsigned, sub_in, is_on_sub, all_five, address_in, address_of, address_cmp, first_at, off_link, sharing_place, nat_tests}
 use Rattle.std.proofs.Common.{length-take}
 use Rattle.afdx_config.proofs.SectionLemmas.{none_on}
 use Rattle.afdx_config.proofs.KeyedLemmas.{same_address, position_none}
@@ -77,12 +77,7 @@ found_from p q v at i (e ∷ rest) = here (address_of e) refl (found_from p q v 
 
 pub sharing : (ports : List PortRow) (first : ℕ × List ℕ → Option (ℕ × ℕ × Option ℕ)) → ((q : ℕ × List ℕ) → first q ≡ first_at q 0 ports)
     → (p : PortRow) → sharing_place first p ≡ position (λ e. share_unicast e p) ports
-sharing ports first is p = here (address_of p) refl
-  where
-    here : (o : Option ((ℕ × List ℕ) × ℕ)) → address_of p ≡ o → sharing_place first p ≡ position (λ e. share_unicast e p) ports
-    here None at = rw at (sym (position_none (λ e. share_unicast e p) ports
-        (λ e. sharing_key e.vl p.vl e.partition p.partition e.unicast p.unicast ∙ rw at (share_none (address_of e)))))
-    here (Some (q, v)) at = rw (at, is q) (sym (position_from-zero (λ e. share_unicast e p) ports ∙ found_from p q v at 0 ports))
+sharing ports first is p = grind (arith, nat_tests, sharing_key, share_none, position_none, position_from-zero, found_from)
 
 -- a port on no known sub-VL
 no_sub : (v u a b : Option ℕ) → (both nat_eq v v && both nat_eq u u) ≡ false → (both nat_eq a v && both nat_eq b u) ≡ false

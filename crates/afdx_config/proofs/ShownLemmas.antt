@@ -25,8 +25,7 @@ rows_shown : {A : Type 0} (f g : ConfigFault) (each : ℕ → A → List PlanFin
     → list_any (has f) (each_row each k xs) ≡ (same f g && any_row test k xs)
 rows_shown f g each test k [] shown = sym (and-false (same f g))
 rows_shown f g each test k (x ∷ xs) shown =
-    rw (list_any-append (has f) (each k x) (each_row each (k + 1) xs), shown k x, rows_shown f g each test (k + 1) xs shown)
-    (sym (and-or_distrib_left (same f g) (test k x) (any_row test (k + 1) xs)))
+    grind (arith, nat_tests, list_any-append, and-or_distrib_left, rows_shown f g each test (k + 1) xs shown)
 
 any_one : {A : Type 0} (p : A → Bool) (k : ℕ) (xs : List A) → any_row (λ j x. p x) k xs ≡ list_any p xs
 any_one p k [] = refl

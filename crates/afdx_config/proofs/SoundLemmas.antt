@@ -1,5 +1,5 @@
 -- A document whose values have no fault has rows with all values.
-use Rattle.afdx_config.proofs.Names.{◌≡◌, ◌+◌, Bool, true, false, cond, List, [], ◌∷◌, ◌++◌, Option, Some, None, ℕ, refl, sym, ◌∙◌, AllByRecursion, flat_map, unwrap_or, Result, Ok, Err, Members, ConfigFault, Field, field_fault, IsSoundTable, Place, key_finding, each_row, only_in_2, result_ok, result_err, arith, nat_tests}
+use Rattle.afdx_config.proofs.Names.{◌≡◌, ◌+◌, List, [], ◌∷◌, ◌++◌, Option, Some, None, ℕ, refl, AllByRecursion, flat_map, unwrap_or, Result, Ok, Err, Members, ConfigFault, Field, field_fault, IsSoundTable, Place, key_finding, each_row, result_ok, result_err, arith, nat_tests}
 use Rattle.afdx_config.specs.Findings.{table_findings}
 
 -- two lists are empty if their concatenation is
@@ -34,9 +34,3 @@ rows_sound like fields k (x ∷ xs) is = let (one, rest) = none _ _ is in
 pub known : {Y : Type 0} (r : Result Y ConfigFault) (d : Y) → result_err r ≡ None → result_ok r ≡ Some (unwrap_or (result_ok r) d)
 known (Ok y) d is = refl
 known (Err fault) d is = cc
-
--- so is one that version 1 lacks
-pub known_in : {Y : Type 0} (is_2 : Bool) (key : Field) (m : Members) (r : Result Y ConfigFault) (d : Y) → field_fault m key ≡ result_err r
-    → IsSoundTable (only_in_2 is_2 key) m → cond is_2 (result_ok r) (Some d) ≡ Some (unwrap_or (cond is_2 (result_ok r) (Some d)) d)
-known_in true key m r d same is = known r d (sym same ∙ is.0)
-known_in false key m r d same is = refl

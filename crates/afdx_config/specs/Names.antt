@@ -2,7 +2,7 @@
 pub use Rattle.std.specs.BTreeMap.{get}
 pub use Rattle.std.specs.Bool.{then_some}
 pub use Rattle.std.specs.Cmp.Lexicographic.{slice_cmp}
-pub use Rattle.std.specs.List.{AllByRecursion, cons_option, flat_map, fold, list_any, position, prefix_len}
+pub use Rattle.std.specs.List.{AllByRecursion, cons_option, flat_map, fold, list_any, position, position_from, prefix_len}
 pub use Rattle.std.specs.Net.Grammar.{IsDotted}
 pub use Rattle.std.specs.Net.Reader.{read_ipv4}
 pub use Rattle.std.specs.Option.{option_map_or}

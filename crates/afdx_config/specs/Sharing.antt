@@ -1,5 +1,5 @@
 -- Rows by their keys, and the keys of ports.
-use Rattle.afdx_config.specs.Names.{Bool, List, None, Option, Ordering, PortRow, Some, [], both, false, if◌then◌else◌, is_eq, nat_cmp, nat_eq, option_and_then, option_map_or, ordering_then, position, slice_cmp, ℕ, ◌&&◌, ◌+◌, ◌==◌, ◌∷◌}
+use Rattle.afdx_config.specs.Names.{Bool, List, None, Option, Ordering, PortRow, Some, [], both, false, if◌then◌else◌, is_eq, nat_cmp, nat_eq, option_and_then, option_map_or, ordering_then, position_from, slice_cmp, ℕ, ◌&&◌, ◌+◌, ◌==◌, ◌∷◌}
 
 -- five values, if there is each
 abbrev pub all_five : {A B C D E : Type 0} → Option A → Option B → Option C → Option D → Option E
@@ -61,4 +61,4 @@ is_key cmp key (Some other) = is_eq (cmp other key)
 
 -- the index of the first row with the key, if there is a key
 abbrev pub first_row : {K : Type 0} → (K → K → Ordering) → List (Option K) → Option K → Option ℕ
-first_row cmp keys key = option_and_then (λ k. position (is_key cmp k) keys) key
+first_row cmp keys key = option_and_then (λ k. position_from (is_key cmp k) 0 keys) key

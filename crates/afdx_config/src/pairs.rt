@@ -1,5 +1,5 @@
 //! Tables that clash with an earlier one, found in the time of sorting them.
-ghost use Rattle.afdx_config.specs.Names.{IfOk, List, OnOk, get, map, option_and_then, option_copied, position, share_unicast, slice_get, ℕ, ◌+◌, ◌<◌, ◌^◌, ◌≡◌};
+ghost use Rattle.afdx_config.specs.Names.{IfOk, List, OnOk, get, map, option_and_then, option_copied, position_from, share_unicast, slice_get, ℕ, ◌+◌, ◌<◌, ◌^◌, ◌≡◌};
 ghost use Rattle.afdx_config.specs.Sharing.{is_key, first_row, flow_of, address_of, address_cmp, first_at, off_link, sharing_place};
 ghost use Rattle.afdx_config.specs.Findings.{each_row, pair_finding, row_like, pair_findings};
 ghost use Rattle.afdx_config.specs.Seen.{Adds};
@@ -15,7 +15,7 @@ pub(crate) fn first_rows<K: Ord + Copy>(
     alloc: Global,
     keys: &[Option<K>],
 ) -> Result<BTreeMap<K, usize>, AllocError>
-    ensures { IfOk result (λ rows. (q : K) → get K.cmp rows q ≡ position (is_key K.cmp q) keys.now) }
+    ensures { IfOk result (λ rows. (q : K) → get K.cmp rows q ≡ position_from (is_key K.cmp q) 0 keys.now) }
 {
     let mut rows = BTreeMap::new(alloc);
     for i in (0..keys.len()).rev() {

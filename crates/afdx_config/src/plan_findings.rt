@@ -1,5 +1,5 @@
 //! The faults of 7 to 14 with their places, in the values that have no fault, and all faults of a document.
-ghost use Rattle.afdx_config.specs.Names.{ConfigFault, IfOk, IfSome, None, OnOk, all_named, codes, get, if◌then◌else◌, is_no_count, is_none, is_row_of, length, list_any, map, misfits, nat_cmp, option_copied, option_map, option_map_or, position, unwrap_or, ℕ, ◌&&◌, ◌++◌, ◌+◌, ◌<◌, ◌^◌, ◌≡◌};
+ghost use Rattle.afdx_config.specs.Names.{ConfigFault, IfOk, IfSome, None, OnOk, all_named, codes, get, if◌then◌else◌, is_no_count, is_none, is_row_of, length, list_any, map, misfits, nat_cmp, option_copied, option_map, option_map_or, position, position_from, unwrap_or, ℕ, ◌&&◌, ◌++◌, ◌+◌, ◌<◌, ◌^◌, ◌≡◌};
 ghost use Rattle.afdx_config.specs.Cells.{cells_of, plan_of};
 ghost use Rattle.afdx_config.specs.Findings.{crowd_finding, each_row, found as finding_at, misfit_finding, one_if, plan_findings, value_findings};
 ghost use Rattle.afdx_config.specs.Seen.{Adds, AreInRange, IsDocument, cells_in, data_of, plan_in};
@@ -90,7 +90,7 @@ type ById = BTreeMap<u16, usize>;
 
 /// Returns the index of the link of a port, which is found by its identifier.
 fn link_place(links: &[LinkRow], by_id: &ById, port: &PortRow) -> Option<usize>
-    requires { (q : ℕ) → get nat_cmp by_id.now q ≡ position (is_key nat_cmp q) (map (λ l. l.id) links.now) }
+    requires { (q : ℕ) → get nat_cmp by_id.now q ≡ position_from (is_key nat_cmp q) 0 (map (λ l. l.id) links.now) }
     ensures first { result ≡ position (is_row_of port.now) links.now }
     ensures room { IfSome result (λ l. l < length links.now) }
 {
@@ -106,7 +106,8 @@ fn add_misfits(
     rows: &Rows,
     by_id: &ById,
 ) -> Added
-    requires { (q : ℕ) → get nat_cmp by_id.now q ≡ position (is_key nat_cmp q) (map (λ l. l.id) rows.now.links.items) }
+    requires { (q : ℕ) → get nat_cmp by_id.now q
+        ≡ position_from (is_key nat_cmp q) 0 (map (λ l. l.id) rows.now.links.items) }
     ensures { OnOk result (Adds found.old found.new
         (each_row (misfit_finding fault key.now misfit (cells_in rows.now)) 1 rows.now.ports.items)) }
 {
