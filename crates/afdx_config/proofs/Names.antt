@@ -13,7 +13,8 @@ pub use Rattle.std.proofs.lemmas.List.Folds.{find_at, flat_map-map, list_any-app
 pub use Rattle.std.proofs.lemmas.List.Quantifiers.{position-Some}
 pub use Rattle.std.proofs.lemmas.Map.Text.{is_eq-slice_cmp}
 pub use Rattle.std.specs.Cmp.{both_tied}
-pub use Rattle.afdx_config.specs.Names.{All, AllByRecursion, Both, Cells, ConfigFault, Data, Err, IfErr, IfOk, IfSome, IsDotted, IsLink, IsPlan, IsPort, LinkRow, Members, Ms1, Ok, Omitted, Ordering, Plan, PlanRule, PortRow, Result, Rule, Sampling, Toml, UnknownKey, as_table, both, breaks, bytes_eq, cells_show, cons_option, fault_number, find, flat_map, fold, get, get_member, is_eq, is_misfit, is_past_limit, is_row_of, items_view, link_count, links_clash, list_any, nat_cmp, nat_lt, option_map_or, ordering_then, plan_rules, plan_shows, port_count, port_misfits, ports_clash, position, position_from, prefix_len, read_ipv4, result_err, result_ok, share_unicast, slice_cmp, sub_is_packed, table_view, then_some, view, ◌==◌, ◌≢◌}
+pub use Rattle.std.specs.Prelude.{◌==◌, ◌≢◌}
+pub use Rattle.afdx_config.specs.Names.{All, AllByRecursion, Both, Cells, ConfigFault, Data, Err, IfErr, IfOk, IfSome, IsDotted, IsLink, IsPlan, IsPort, LinkRow, Members, Ms1, Ok, Omitted, Ordering, Plan, PlanRule, PortRow, Result, Rule, Sampling, Toml, UnknownKey, as_table, both, breaks, bytes_eq, cells_show, cons_option, fault_number, find, flat_map, fold, get, get_member, is_eq, is_misfit, is_past_limit, is_row_of, items_view, link_count, links_clash, list_any, nat_cmp, nat_lt, option_map_or, ordering_then, plan_rules, plan_shows, port_count, port_misfits, ports_clash, position, position_from, prefix_len, read_ipv4, result_err, result_ok, share_unicast, slice_cmp, sub_is_packed, table_view, then_some, view}
 pub use Rattle.std.proofs.lemmas.Option.{same_Some, slice_get-get_or, slice_get_past}
 pub use Rattle.std.proofs.lemmas.Result.{on_ok_weaker, IfOk-weaker}
 pub use Rattle.std.proofs.lemmas.Simd.{map-map}

@@ -1,5 +1,6 @@
 -- The values of links and ports that have no fault, and the plan of a document.
-use Rattle.afdx_config.specs.Names.{Bool, Both, Cells, LinkPlan, LinkRow, Members, Ms1, None, Omitted, Plan, PortPlan, PortRow, Sampling, Some, codes, if◌then◌else◌, is_none, map, option_and_then, plan_of_parts, unwrap_or, ℕ}
+use Rattle.std.specs.Prelude.{if◌then◌else◌}
+use Rattle.afdx_config.specs.Names.{Bool, Both, Cells, LinkPlan, LinkRow, Members, Ms1, None, Omitted, Plan, PortPlan, PortRow, Sampling, Some, codes, is_none, map, option_and_then, plan_of_parts, unwrap_or, ℕ}
 use Rattle.afdx_config.specs.declared.format.Content.TheVariants.{Rows}
 use Rattle.afdx_config.specs.Format.{field, capacity_range, id_range, lmax_range, max_range, partition_range, sub_range, subs_range, udp_range}
 use Rattle.afdx_config.specs.Tables.{value_at, number_under, gap_under, networks_under, kind_under, address_under, checksum_under, field_fault, is_version_2, rows_at, section_at}

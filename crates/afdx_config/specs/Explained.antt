@@ -1,5 +1,6 @@
 -- The explanation of a text.
-use Rattle.afdx_config.specs.Names.{Bool, List, Members, None, Toml, [], codes, count_by, decimal, if◌then◌else◌, length, nat_le, nat_lt, not, take, ℕ, ◌&&◌, ◌++◌, ◌+◌, ◌-◌, ◌==◌, ◌∷◌, ◌≡◌, ◌≤◌, ◌⊎◌}
+use Rattle.std.specs.Prelude.{if◌then◌else◌, ◌&&◌, ◌++◌, ◌+◌, ◌-◌, ◌==◌, ◌∷◌, ◌≡◌, ◌≤◌, ◌⊎◌}
+use Rattle.afdx_config.specs.Names.{Bool, List, Members, None, Toml, [], codes, count_by, decimal, length, nat_le, nat_lt, not, take, ℕ}
 use Rattle.afdx_config.specs.declared.findings.Place.TheVariants.{Text}
 use Rattle.afdx_config.specs.Faults.{Reads}
 use Rattle.afdx_config.specs.Findings.{PlanFinding, Tells, found, findings, lines_limit}

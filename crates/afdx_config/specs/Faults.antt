@@ -1,5 +1,6 @@
 -- The faults of a plan.
-use Rattle.afdx_config.specs.Names.{Bool, ConfigFault, IsUtf8, List, Members, Plan, Some, Toml, cells_show, fault_number, list_any, parse_document, true, ℕ, ◌<◌, ◌||◌, ◌≡◌}
+use Rattle.std.specs.Prelude.{◌<◌, ◌||◌, ◌≡◌}
+use Rattle.afdx_config.specs.Names.{Bool, ConfigFault, IsUtf8, List, Members, Plan, Some, Toml, cells_show, fault_number, list_any, parse_document, true, ℕ}
 use Rattle.afdx_config.specs.Cells.{cells_of, plan_of}
 use Rattle.afdx_config.specs.Findings.{has, value_findings}
 

@@ -1,5 +1,6 @@
 -- Laws of the findings of a document.
-use Rattle.afdx_config.specs.Names.{All, Bool, Cells, ConfigFault, List, Members, None, Option, PlanRule, Rule, Some, UnknownKey, [], breaks, bytes_eq, codes, false, is_misfit, is_past_limit, link_count, links_clash, list_any, nat_lt, not, option_map_or, plan_rules, plan_shows, port_count, port_misfits, ports_clash, slice_get, sub_is_packed, true, ℕ, ◌&&◌, ◌-◌, ◌||◌, ◌∷◌, ◌≡◌}
+use Rattle.std.specs.Prelude.{◌&&◌, ◌-◌, ◌||◌, ◌∷◌, ◌≡◌}
+use Rattle.afdx_config.specs.Names.{All, Bool, Cells, ConfigFault, List, Members, None, Option, PlanRule, Rule, Some, UnknownKey, [], breaks, bytes_eq, codes, false, is_misfit, is_past_limit, link_count, links_clash, list_any, nat_lt, not, option_map_or, plan_rules, plan_shows, port_count, port_misfits, ports_clash, slice_get, sub_is_packed, true, ℕ}
 use Rattle.afdx_config.specs.Cells.{cells_of, plan_of}
 use Rattle.afdx_config.specs.declared.findings.Place.{Place}
 use Rattle.afdx_config.specs.declared.findings.Place.TheVariants.{Text, Top, EndSystem, Link, Port}

@@ -1,5 +1,6 @@
 -- All faults of a document, each with its place.
-use Rattle.afdx_config.specs.Names.{Bool, Cells, ConfigFault, List, Members, Misfit, None, Option, PlanRule, PortRow, Rule, Some, UnknownKey, [], breaks, bytes_eq, codes, false, fault_number, flat_map, fold, if◌then◌else◌, is_misfit, is_past_limit, is_row_of, length, link_count, links_clash, nat_lt, option_map, option_map_or, plan_rules, port_count, port_misfits, ports_clash, position, sub_is_packed, take, true, ℕ, ◌&&◌, ◌++◌, ◌+◌, ◌==◌, ◌||◌, ◌∷◌, ◌≡◌}
+use Rattle.std.specs.Prelude.{if◌then◌else◌, ◌&&◌, ◌++◌, ◌+◌, ◌==◌, ◌||◌, ◌∷◌, ◌≡◌}
+use Rattle.afdx_config.specs.Names.{Bool, Cells, ConfigFault, List, Members, Misfit, None, Option, PlanRule, PortRow, Rule, Some, UnknownKey, [], breaks, bytes_eq, codes, false, fault_number, flat_map, fold, is_misfit, is_past_limit, is_row_of, length, link_count, links_clash, nat_lt, option_map, option_map_or, plan_rules, port_count, port_misfits, ports_clash, position, sub_is_packed, take, true, ℕ}
 use Rattle.afdx_config.specs.declared.findings.Place.{Place}
 use Rattle.afdx_config.specs.declared.findings.Place.TheVariants.{Top, EndSystem, Link, Port}
 use Rattle.afdx_config.specs.Format.{Field, document_fields, end_fields, link_fields, port_fields}

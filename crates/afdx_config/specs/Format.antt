@@ -1,5 +1,6 @@
 -- The format of a plan: the keys of its tables and their values.
-use Rattle.afdx_config.specs.Names.{Bool, List, [], codes, false, true, ℕ, ◌∷◌}
+use Rattle.std.specs.Prelude.{◌∷◌}
+use Rattle.afdx_config.specs.Names.{Bool, List, [], codes, false, true, ℕ}
 use Rattle.afdx_config.specs.declared.format.Content.{Content}
 use Rattle.afdx_config.specs.declared.format.Content.TheVariants.{Whole, Version, Gap, Networks, PortKind, Address, Checksum, Section, Rows}
 

@@ -7,7 +7,7 @@ pub use Rattle.std.specs.Net.Grammar.{IsDotted}
 pub use Rattle.std.specs.Net.Reader.{read_ipv4}
 pub use Rattle.std.specs.Option.{option_map_or}
 pub use Rattle.std.specs.Ordering.{is_eq, nat_cmp, ordering_then}
-pub use Rattle.std.specs.Prelude.{All, Bool, Err, IfErr, IfOk, IfSome, IsUtf8, List, None, Ok, OnOk, Option, Result, Some, [], bytes_eq, codes, count_by, decimal, false, find, if◌then◌else◌, is_none, length, map, nat_eq, nat_le, nat_lt, negsuc, not, ok_or, option_and_then, option_copied, option_map, pos, slice_get, slice_index, string_bytes, take, true, unwrap_or, ℕ, ℤ, ⊤, ◌&&◌, ◌++◌, ◌+◌, ◌-◌, ◌<◌, ◌==◌, ◌^◌, ◌||◌, ◌↔◌, ◌∷◌, ◌≡◌, ◌≢◌, ◌≤◌, ◌⊎◌}
+pub use Rattle.std.specs.Prelude.{All, Bool, Err, IfErr, IfOk, IfSome, IsUtf8, List, None, Ok, OnOk, Option, Result, Some, [], bytes_eq, codes, count_by, decimal, false, find, is_none, length, map, nat_eq, nat_le, nat_lt, negsuc, not, ok_or, option_and_then, option_copied, option_map, pos, slice_get, slice_index, string_bytes, take, true, unwrap_or, ℕ, ℤ, ⊤}
 pub use Rattle.std.specs.Result.{result_err, result_ok}
 pub use Rattle.std.specs.declared.cmp.Ordering.{Ordering}
 pub use Rattle.toml.specs.Data.{Data, Items, Members, as_array, as_integer, as_str, as_table, get_member, item, member, no_items, no_members}

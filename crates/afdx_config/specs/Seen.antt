@@ -1,5 +1,6 @@
 -- The specification values of documents, formats and findings in the code.
-use Rattle.afdx_config.specs.Names.{All, AllByRecursion, Cells, ConfigFault, IsLink, IsPort, List, Members, None, Option, Plan, Some, [], codes, length, list_any, map, option_map, plan_of_parts, string_bytes, table_view, take, ⊤, ◌++◌, ◌∷◌, ◌≡◌, ◌≤◌}
+use Rattle.std.specs.Prelude.{◌++◌, ◌∷◌, ◌≡◌, ◌≤◌}
+use Rattle.afdx_config.specs.Names.{All, AllByRecursion, Cells, ConfigFault, IsLink, IsPort, List, Members, None, Option, Plan, Some, [], codes, length, list_any, map, option_map, plan_of_parts, string_bytes, table_view, take, ⊤}
 use Rattle.afdx_config.specs.Cells.{link_of, port_of}
 use Rattle.afdx_config.specs.Findings.{PlanFinding, by_fault, is_newer, lines_limit, number_of, told_once}
 use Rattle.afdx_config.specs.declared.rows.Rows.{Rows}

@@ -1,5 +1,6 @@
 -- Rows by their keys, and the keys of ports.
-use Rattle.afdx_config.specs.Names.{Bool, List, None, Option, Ordering, PortRow, Some, [], both, false, if◌then◌else◌, is_eq, nat_cmp, nat_eq, option_and_then, option_map_or, ordering_then, position_from, slice_cmp, ℕ, ◌&&◌, ◌+◌, ◌==◌, ◌∷◌}
+use Rattle.std.specs.Prelude.{if◌then◌else◌, ◌&&◌, ◌+◌, ◌==◌, ◌∷◌}
+use Rattle.afdx_config.specs.Names.{Bool, List, None, Option, Ordering, PortRow, Some, [], both, false, is_eq, nat_cmp, nat_eq, option_and_then, option_map_or, ordering_then, position_from, slice_cmp, ℕ}
 
 -- five values, if there is each
 abbrev pub all_five : {A B C D E : Type 0} → Option A → Option B → Option C → Option D → Option E

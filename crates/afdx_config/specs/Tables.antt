@@ -1,5 +1,6 @@
 -- The tables of a document, values of them by key, and the faults of these.
-use Rattle.afdx_config.specs.Names.{BadBag, Bag, Bool, Both, ConfigFault, Data, Err, Items, Kind, List, Members, MissingKey, Networks as Nets, None, Ok, Omitted, Option, OutOfRange, Result, Some, UdpSum, UnknownKey, WrongKind, [], as_array, as_integer, as_str, as_table, bytes_eq, codes, cons_option, false, fault_number, get_member, if◌then◌else◌, is_none, item, list_any, member, nat_lt, negsuc, no_items, no_members, not, ok_or, option_and_then, option_map_or, pos, result_err, result_ok, then_some, ℕ, ℤ, ◌==◌, ◌||◌, ◌∷◌}
+use Rattle.std.specs.Prelude.{if◌then◌else◌, ◌==◌, ◌||◌, ◌∷◌}
+use Rattle.afdx_config.specs.Names.{BadBag, Bag, Bool, Both, ConfigFault, Data, Err, Items, Kind, List, Members, MissingKey, Networks as Nets, None, Ok, Omitted, Option, OutOfRange, Result, Some, UdpSum, UnknownKey, WrongKind, [], as_array, as_integer, as_str, as_table, bytes_eq, codes, cons_option, false, fault_number, get_member, is_none, item, list_any, member, nat_lt, negsuc, no_items, no_members, not, ok_or, option_and_then, option_map_or, pos, result_err, result_ok, then_some, ℕ, ℤ}
 use Rattle.afdx_config.specs.declared.format.Content.{Content}
 use Rattle.afdx_config.specs.declared.format.Content.TheVariants.{Whole, Version, Gap, Networks, PortKind, Address, Checksum, Section, Rows}
 use Rattle.afdx_config.specs.Values.{bag_of, networks_of, kind_of, unicast_of, checksum_of}

@@ -1,5 +1,6 @@
 -- Values of a plan in texts.
-use Rattle.afdx_config.specs.Names.{Bag, Both, Generated, IsDotted, Kind, List, Ms1, Ms128, Ms16, Ms2, Ms32, Ms4, Ms64, Ms8, Networks, None, Omitted, OnlyA, OnlyB, Option, Queuing, Sampling, Some, UdpSum, [], bytes_eq, codes, if◌then◌else◌, negsuc, option_and_then, option_map, pos, read_ipv4, slice_index, ℕ, ℤ, ◌==◌, ◌↔◌, ◌∷◌, ◌≡◌}
+use Rattle.std.specs.Prelude.{if◌then◌else◌, ◌==◌, ◌↔◌, ◌∷◌, ◌≡◌}
+use Rattle.afdx_config.specs.Names.{Bag, Both, Generated, IsDotted, Kind, List, Ms1, Ms128, Ms16, Ms2, Ms32, Ms4, Ms64, Ms8, Networks, None, Omitted, OnlyA, OnlyB, Option, Queuing, Sampling, Some, UdpSum, [], bytes_eq, codes, negsuc, option_and_then, option_map, pos, read_ipv4, slice_index, ℕ, ℤ}
 
 -- the BAG of a number of milliseconds
 unfoldable pub bag_of : ℤ → Option Bag

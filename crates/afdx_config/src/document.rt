@@ -1,5 +1,6 @@
 //! The document of a plan and its tables.
-ghost use Rattle.afdx_config.specs.Names.{IfOk, items_view, map, option_map, table_view, ◌≡◌};
+ghost use Rattle.std.specs.Prelude.{◌≡◌};
+ghost use Rattle.afdx_config.specs.Names.{IfOk, items_view, map, option_map, table_view};
 ghost use Rattle.afdx_config.specs.Tables.{tables_among, rows_at, section_at};
 ghost use Rattle.afdx_config.specs.Seen.{IsDocument, data_of};
 

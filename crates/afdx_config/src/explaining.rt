@@ -1,5 +1,6 @@
 //! All faults of a plan, each with its place.
-ghost use Rattle.afdx_config.specs.Names.{IfOk, IsWithin, List, [], map, table_view, ◌∷◌, ◌≡◌};
+ghost use Rattle.std.specs.Prelude.{◌∷◌, ◌≡◌};
+ghost use Rattle.afdx_config.specs.Names.{IfOk, IsWithin, List, [], map, table_view};
 ghost use Rattle.afdx_config.specs.Explained.{column_after, line_of, Explains, HasLines, TellsToml, stop_finding};
 ghost use Rattle.afdx_config.specs.Findings.{PlanFinding as Finding, Tells, findings};
 ghost use Rattle.afdx_config.specs.Seen.{finding_of};

@@ -1,5 +1,6 @@
 //! Faults of a plan with their places.
-ghost use Rattle.afdx_config.specs.Names.{None, OnOk, [], fault_number, length, nat_le, prefix_len, ◌∷◌, ◌≡◌, ◌≤◌};
+ghost use Rattle.std.specs.Prelude.{◌∷◌, ◌≡◌, ◌≤◌};
+ghost use Rattle.afdx_config.specs.Names.{None, OnOk, [], fault_number, length, nat_le, prefix_len};
 ghost use Rattle.afdx_config.specs.Findings.{found as finding_at, is_newer as is_newer_finding, one_if, row_like};
 ghost use Rattle.afdx_config.specs.Seen.{Adds, Holds, KeepsOne};
 

@@ -1,5 +1,6 @@
 //! The format of a plan: the keys of its tables and their values.
-ghost use Rattle.afdx_config.specs.Names.{bytes_eq, find, map, option_copied, ◌≡◌};
+ghost use Rattle.std.specs.Prelude.{◌≡◌};
+ghost use Rattle.afdx_config.specs.Names.{bytes_eq, find, map, option_copied};
 ghost use Rattle.afdx_config.specs.Tables.{key_fault};
 ghost use Rattle.afdx_config.specs.Seen.{field_of};
 

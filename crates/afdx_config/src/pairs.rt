@@ -1,5 +1,6 @@
 //! Tables that clash with an earlier one, found in the time of sorting them.
-ghost use Rattle.afdx_config.specs.Names.{IfOk, List, OnOk, get, map, option_and_then, option_copied, position_from, share_unicast, slice_get, ℕ, ◌+◌, ◌<◌, ◌^◌, ◌≡◌};
+ghost use Rattle.std.specs.Prelude.{◌+◌, ◌<◌, ◌^◌, ◌≡◌};
+ghost use Rattle.afdx_config.specs.Names.{IfOk, List, OnOk, get, map, option_and_then, option_copied, position_from, share_unicast, slice_get, ℕ};
 ghost use Rattle.afdx_config.specs.Sharing.{is_key, first_row, flow_of, address_of, address_cmp, first_at, off_link, sharing_place};
 ghost use Rattle.afdx_config.specs.Findings.{each_row, pair_finding, row_like, pair_findings};
 ghost use Rattle.afdx_config.specs.Seen.{Adds};

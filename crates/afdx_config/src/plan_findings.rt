@@ -1,5 +1,6 @@
 //! The faults of 7 to 14 with their places, in the values that have no fault, and all faults of a document.
-ghost use Rattle.afdx_config.specs.Names.{ConfigFault, IfOk, IfSome, None, OnOk, all_named, codes, get, if◌then◌else◌, is_no_count, is_none, is_row_of, length, list_any, map, misfits, nat_cmp, option_copied, option_map, option_map_or, position, position_from, unwrap_or, ℕ, ◌&&◌, ◌++◌, ◌+◌, ◌<◌, ◌^◌, ◌≡◌};
+ghost use Rattle.std.specs.Prelude.{if◌then◌else◌, ◌&&◌, ◌++◌, ◌+◌, ◌<◌, ◌^◌, ◌≡◌};
+ghost use Rattle.afdx_config.specs.Names.{ConfigFault, IfOk, IfSome, None, OnOk, all_named, codes, get, is_no_count, is_none, is_row_of, length, list_any, map, misfits, nat_cmp, option_copied, option_map, option_map_or, position, position_from, unwrap_or, ℕ};
 ghost use Rattle.afdx_config.specs.Cells.{cells_of, plan_of};
 ghost use Rattle.afdx_config.specs.Findings.{crowd_finding, each_row, found as finding_at, misfit_finding, one_if, plan_findings, value_findings};
 ghost use Rattle.afdx_config.specs.Seen.{Adds, AreInRange, IsDocument, cells_in, data_of, plan_in};

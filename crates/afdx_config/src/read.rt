@@ -1,5 +1,6 @@
 //! Reading a plan.
-ghost use Rattle.afdx_config.specs.Names.{All, ConfigFault, IfErr, IfOk, IsPlan, List, Some, [], map, ◌≡◌, ◌≢◌};
+ghost use Rattle.std.specs.Prelude.{◌≡◌, ◌≢◌};
+ghost use Rattle.afdx_config.specs.Names.{All, ConfigFault, IfErr, IfOk, IsPlan, List, Some, [], map};
 ghost use Rattle.afdx_config.specs.Cells.{plan_of};
 ghost use Rattle.afdx_config.specs.Faults.{IsPlanOf, IsLeastFault};
 ghost use Rattle.afdx_config.specs.Findings.{PlanFinding, by_fault, findings, told_once};

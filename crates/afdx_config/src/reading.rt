@@ -1,5 +1,6 @@
 //! The values of tables, each read once: a value, or its fault.
-ghost use Rattle.afdx_config.specs.Names.{ConfigFault, Err, IfOk, IfSome, IsUnicast, List, MissingKey, None, Option, Some, WrongKind, as_integer, as_str, as_table, codes, get_member, if◌then◌else◌, is_none, list_any, option_map, slice_index, table_view, view, ℕ, ◌==◌, ◌≡◌, ◌≤◌};
+ghost use Rattle.std.specs.Prelude.{if◌then◌else◌, ◌==◌, ◌≡◌, ◌≤◌};
+ghost use Rattle.afdx_config.specs.Names.{ConfigFault, Err, IfOk, IfSome, IsUnicast, List, MissingKey, None, Option, Some, WrongKind, as_integer, as_str, as_table, codes, get_member, is_none, list_any, option_map, slice_index, table_view, view, ℕ};
 ghost use Rattle.afdx_config.specs.declared.format.Content.{Content};
 ghost use Rattle.afdx_config.specs.Tables.{address_under, content_fault, in_range, number_under, gap_under, read, version_under};
 ghost use Rattle.afdx_config.specs.Values.{address_of, bag_of, networks_of, kind_of, checksum_of};

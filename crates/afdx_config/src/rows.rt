@@ -1,5 +1,6 @@
 //! The values of a document, read once, and the findings of its keys.
-ghost use Rattle.afdx_config.specs.Names.{All, Bool, IfOk, IfSome, IsLink, IsPort, List, Members, Ok, OnOk, [], codes, get_member, if◌then◌else◌, map, option_map_or, result_err, result_ok, table_view, ◌≡◌, ◌≤◌};
+ghost use Rattle.std.specs.Prelude.{if◌then◌else◌, ◌≡◌, ◌≤◌};
+ghost use Rattle.afdx_config.specs.Names.{All, Bool, IfOk, IfSome, IsLink, IsPort, List, Members, Ok, OnOk, [], codes, get_member, map, option_map_or, result_err, result_ok, table_view};
 ghost use Rattle.afdx_config.specs.declared.format.Content.{Content};
 ghost use Rattle.afdx_config.specs.Cells.{link_of, link_row, port_of, port_row, cells_of, end_system_of};
 ghost use Rattle.afdx_config.specs.Findings.{key_finding, field_findings, each_row, key_findings, row_like, table_findings, value_findings};

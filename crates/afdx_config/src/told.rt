@@ -1,5 +1,6 @@
 //! The text of findings. The words of their lines are tested alone, in `tests/explain`.
-ghost use Rattle.afdx_config.specs.Names.{IfOk, OnOk, ◌++◌, ◌-◌, ◌≡◌};
+ghost use Rattle.std.specs.Prelude.{◌++◌, ◌-◌, ◌≡◌};
+ghost use Rattle.afdx_config.specs.Names.{IfOk, OnOk};
 ghost use Rattle.afdx_config.specs.Explained.{HasLines, count_line, rest_line};
 ghost use Rattle.afdx_config.specs.Findings.{lines_limit};
 
