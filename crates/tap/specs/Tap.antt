@@ -1,6 +1,7 @@
 -- The judges of several end systems. Each hears the packets of its own, which their source MAC addresses name.
-use Rattle.std.specs.Prelude.{ℕ, ◌&&◌, ◌==◌, ◌++◌, if◌then◌else◌, nat_eq, nat_le, List, [], ◌∷◌, length, slice_index, slice_get, Option, Some, None, option_and_then, unwrap_or}
+use Rattle.std.specs.Prelude.{ℕ, Bool, not, ◌&&◌, ◌==◌, ◌++◌, if◌then◌else◌, nat_eq, nat_le, List, [], ◌∷◌, length, slice_index, slice_get, Option, Some, None, option_and_then, unwrap_or}
 use Rattle.std.specs.Map.{lookup, set_value}
+use Rattle.std.specs.Option.{is_some}
 use Rattle.std.specs.BTreeMap.{insert_entry, is_at}
 use Rattle.std.specs.Ordering.{nat_cmp}
 use Rattle.afdx_frame.specs.Profile.{word_at}
@@ -62,12 +63,25 @@ abbrev pub found_heard : Net → ℕ → Recorded → Judges → List Finding �
 found_heard net number p t found =
     found_by net number p t found (option_and_then (judge_at t.judges) (heard_as t.order p.bytes))
 
+-- no plan
+abbrev pub no_judges : Judges
+no_judges = record { judges = []; order = [] }
+
 -- with the judge of one more plan
 abbrev pub with_judge : Plan → Options → Judges → Judges
 with_judge plan options t = record {
   judges = insert_entry nat_cmp t.judges plan.end_system (at_start plan options);
   order = t.order ++ plan.end_system ∷ [];
 }
+
+-- with the judges of more plans, one after the other
+abbrev pub with_judges : List Plan → Options → Judges → Judges
+with_judges [] options t = t
+with_judges (plan ∷ plans) options t = with_judges plans options (with_judge plan options t)
+
+-- the source MAC address of a frame names no plan's end system; a frame that ends before its type isn't foreign
+abbrev pub is_foreign : List ℕ → Judges → Bool
+is_foreign f t = nat_le 14 (length f) && not (is_some (option_and_then (judge_at t.judges) (source_of f)))
 
 -- the findings at the end of the recording, in the order of the plans
 abbrev pub ended : List Finding → Option Judging → List Finding

@@ -1,7 +1,7 @@
 //! A set of judges, one for each plan.
-ghost use Rattle.std.specs.Prelude.{◌≡◌, OnOk, option_copied, []};
+ghost use Rattle.std.specs.Prelude.{◌≡◌, IfOk, OnOk, option_copied};
 ghost use Rattle.capture.specs.Recording.{recorded};
-ghost use Rattle.tap.specs.Tap.{Judges, after_heard, ended_all, found_heard, judge_at, heard_as as heard_as_of, with_judge};
+ghost use Rattle.tap.specs.Tap.{Judges, after_heard, ended_all, found_heard, judge_at, heard_as as heard_as_of, is_foreign, no_judges, with_judge, with_judges};
 
 use crate::source::source_of;
 use afdx_frame::Net;
@@ -29,7 +29,9 @@ impl Model for Tap {
 
 impl Tap {
     /// Creates the judges of plans, which have heard no packet. Fails only if memory runs out.
-    pub fn new(alloc: Global, plans: Vec<Config>, options: Options) -> Result<Tap, AllocError> {
+    pub fn new(alloc: Global, plans: Vec<Config>, options: Options) -> Result<Tap, AllocError>
+        ensures { IfOk result (λ tap. tap ≡ with_judges plans.items options no_judges) }
+    {
         let mut tap = Tap::empty(alloc);
         for plan in plans {
             tap.add(alloc, plan, options)?;
@@ -39,7 +41,7 @@ impl Tap {
 
     /// Creates a tap without a judge.
     pub fn empty(alloc: Global) -> Tap
-        ensures { result ≡ record { judges = []; order = [] } }
+        ensures { result ≡ no_judges }
     {
         Tap {
             judges: BTreeMap::new(alloc),
@@ -75,7 +77,9 @@ impl Tap {
 
     /// Returns whether the source MAC address of a packet's frame names no plan's end system. A packet that ends before
     /// the type of its frame isn't foreign.
-    pub fn is_foreign(&self, packet: &Packet<'_>) -> bool {
+    pub fn is_foreign(&self, packet: &Packet<'_>) -> bool
+        ensures { result ≡ is_foreign packet.now.bytes.now self.now }
+    {
         packet.bytes.len() >= 14
             && match source_of(packet.bytes) {
                 Some(source) => self.judges.get(&source).is_none(),
