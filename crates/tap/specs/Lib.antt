@@ -1,3 +1,4 @@
 pub mod Addresses
 pub mod Apart
 pub mod Tap
+pub mod Network

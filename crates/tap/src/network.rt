@@ -1,4 +1,7 @@
 //! The end systems and links that the plans of one network share, though they may not.
+ghost use Rattle.std.specs.Prelude.{◌≡◌, ◌++◌, IfOk, OnOk};
+ghost use Rattle.tap.specs.Network.{clashes, place_of, shared_by};
+
 use afdx_plan::{Config, LinkPlan};
 use std::alloc::{AllocError, Global};
 
@@ -22,26 +25,29 @@ pub struct Clash {
 
 /// Returns what plans of one network share, and may not: an end system is in one plan alone, and so is a link, since
 /// each has an address of its own. Fails only if memory runs out.
-pub fn clashes(alloc: Global, plans: &[Config]) -> Result<Vec<Clash>, AllocError> {
+pub fn clashes(alloc: Global, plans: &[Config]) -> Result<Vec<Clash>, AllocError>
+    ensures { IfOk result (λ found. found.items ≡ clashes plans.now) }
+{
     let mut found = Vec::new(alloc);
     for (later, plan) in plans.iter().enumerate() {
-        for (earlier, other) in plans.iter().enumerate() {
-            if earlier < later {
-                add_shared(&mut found, earlier, other, later, plan)?;
-            }
+        for (earlier, other) in plans[..later].iter().enumerate() {
+            add_shared(&mut found, earlier, other, later, plan)?;
         }
     }
     Ok(found)
 }
 
 /// Adds what two plans share.
+#[tactic(auto, unfolding(crate::specs::Network::shared_by))]
 fn add_shared(
     found: &mut Vec<Clash>,
     earlier: usize,
     other: &Config,
     later: usize,
     plan: &Config,
-) -> Result<(), AllocError> {
+) -> Result<(), AllocError>
+    ensures { OnOk result (found.new.items ≡ found.old.items ++ shared_by earlier other.now later plan.now) }
+{
     let clash = |id, shared| Clash {
         id,
         earlier,
@@ -60,6 +66,8 @@ fn add_shared(
 }
 
 /// Returns the place of the link with the same number.
-fn place_of(links: &[LinkPlan], link: &LinkPlan) -> Option<usize> {
+fn place_of(links: &[LinkPlan], link: &LinkPlan) -> Option<usize>
+    ensures { result ≡ place_of links.now link.now }
+{
     links.iter().position(|it| it.id.0 == link.id.0)
 }
