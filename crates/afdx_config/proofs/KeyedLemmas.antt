@@ -6,7 +6,8 @@ from_map : {A B : Type 0} (p : B → Bool) (f : A → B) (k : ℕ) (rows : List 
 from_map p f k [] = refl
 from_map p f k (x ∷ xs) = rw (from_map p f (k + 1) xs) refl
 
-pub position_map : {A B : Type 0} (p : B → Bool) (f : A → B) (rows : List A) → position_from p 0 (map f rows) ≡ position (λ x. p (f x)) rows
+pub position_map : {A B : Type 0} (p : B → Bool) (f : A → B) (rows : List A)
+    → position_from p 0 (map f rows) ≡ position (λ x. p (f x)) rows
 position_map p f rows = from_map p f 0 rows ∙ sym (position_from-zero (λ x. p (f x)) rows)
 
 from_none : {A : Type 0} (k : ℕ) (rows : List A) → position_from (λ x. false) k rows ≡ None

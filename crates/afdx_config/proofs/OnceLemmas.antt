@@ -21,7 +21,8 @@ r_once P told [] each = each
 r_once P told (x ∷ xs) each = grind (arith, nat_tests, r_once P told xs each.1, r_once P (told || is_newer x) xs each.1)
 
 -- what isn't told has the fault of what was told
-same_fault : (f : ConfigFault) (x : PlanFinding) → is_newer x ≡ true → has f x ≡ (fault_number f == fault_number UnknownKey)
+same_fault : (f : ConfigFault) (x : PlanFinding) → is_newer x ≡ true
+    → has f x ≡ (fault_number f == fault_number UnknownKey)
 same_fault f x new = grind (arith, nat_tests)
 
 other_fault : (f : ConfigFault) (xs : List PlanFinding) → (fault_number f == fault_number UnknownKey) ≡ false
@@ -39,7 +40,8 @@ no_once [] is = refl
 no_once (x ∷ xs) is = cc
 
 -- adding a finding whose cause was told
-pub adds_none : (old new : Kept) (x : PlanFinding) → (old.has_newer && is_newer x) ≡ true → new ≡ old → Adds old new (x ∷ [])
+pub adds_none : (old new : Kept) (x : PlanFinding) → (old.has_newer && is_newer x) ≡ true
+    → new ≡ old → Adds old new (x ∷ [])
 adds_none old new x both same all holds =
     let kept = told_same false all x (rw (← holds.newer_is) both) in
     let told = holds.newer_is in

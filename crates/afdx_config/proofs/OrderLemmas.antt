@@ -54,16 +54,19 @@ no_finding (x ∷ xs) is = let none = ap (list_any (λ y. true)) is in let any =
 take_put : (k : ℕ) (ys : List PlanFinding) (x : PlanFinding) → take k (put (take k ys) x) ≡ take k (put ys x)
 take_put zero ys x = refl
 take_put (suc k) [] x = refl
-take_put (suc k) (y ∷ ys) x = let head = take-take k (suc k) (y ∷ ys) (omega arith) in grind (arith, nat_tests, head, take_put k ys x)
+take_put (suc k) (y ∷ ys) x =
+    let head = take-take k (suc k) (y ∷ ys) (omega arith) in grind (arith, nat_tests, head, take_put k ys x)
 
 -- the index of a finding among those that are written
 abbrev pub index_in : List Written → PlanFinding → ℕ
 index_in first x = prefix_len (λ w. nat_le (fault_number w.fault) (number_of x)) first
 
 -- a finding goes after those of no greater faults
-placed : (first : List Written) (x : PlanFinding) → insert (map finding_of first) (index_in first x) x ≡ put (map finding_of first) x
+placed : (first : List Written) (x : PlanFinding)
+    → insert (map finding_of first) (index_in first x) x ≡ put (map finding_of first) x
 placed [] x = refl
-placed (w ∷ ws) x = let next : 1 + index_in ws x ≡ suc (index_in ws x) = omega arith in grind (arith, nat_tests, next, placed ws x)
+placed (w ∷ ws) x =
+    let next : 1 + index_in ws x ≡ suc (index_in ws x) = omega arith in grind (arith, nat_tests, next, placed ws x)
 
 -- a finding that was written among others
 pub map_insert : (first : List Written) (i : ℕ) (x : Written)
@@ -72,23 +75,27 @@ map_insert first i x = sym (take-map finding_of lines_limit (insert first i x)) 
     ∙ rw (take-map finding_of i first, drop-map finding_of i first) refl)
 
 -- one finding, which is kept if it is among the first
-pub adds_put : (old new : Kept) (x : PlanFinding) (index : ℕ) → new.count ≡ old.count + 1 → index ≡ index_in old.first.items x
+pub adds_put : (old new : Kept) (x : PlanFinding) (index : ℕ) → new.count ≡ old.count + 1
+    → index ≡ index_in old.first.items x
     → map finding_of new.first.items ≡ take lines_limit (insert (map finding_of old.first.items) index x) → KeepsOne old new x
 adds_put old new x index counted at kept all holds =
     let more : by_fault (all ++ x ∷ []) ≡ put (by_fault all) x = fold-append put [] all (x ∷ []) in
     record {
-      first_are = rw more (kept ∙ ap (take lines_limit) (rw at (placed old.first.items x) ∙ ap (λ ys. put ys x) holds.first_are)
+      first_are = rw more (kept ∙ ap (take lines_limit) (rw at (placed old.first.items x)
+          ∙ ap (λ ys. put ys x) holds.first_are)
           ∙ take_put lines_limit (by_fault all) x);
       count_is = rw more (counted ∙ ap (λ n. n + 1) holds.count_is ∙ sym (put_length (by_fault all) x));
     }
 
 -- one finding past the first ones
-pub adds_past : (old new : Kept) (x : PlanFinding) (index : ℕ) → new.count ≡ old.count + 1 → index ≡ index_in old.first.items x
+pub adds_past : (old new : Kept) (x : PlanFinding) (index : ℕ) → new.count ≡ old.count + 1
+    → index ≡ index_in old.first.items x
     → lines_limit ≤ index → new.first ≡ old.first → KeepsOne old new x
 adds_past old new x index counted at past same all holds =
     let ys = map finding_of old.first.items in
     let most : length ys ≤ lines_limit = let is = holds.first_are in let size = length-take lines_limit (by_fault all) in rw is (omega arith) in
-    let within : index ≤ length ys = rw (at, length-map old.first.items finding_of) (prefix_len-le-length _ old.first.items) in
+    let within : index ≤ length ys =
+    rw (at, length-map old.first.items finding_of) (prefix_len-le-length _ old.first.items) in
     adds_put old new x index counted at (ap (λ v. map finding_of v.items) same ∙ sym (all_kept ys most within)) all holds
   where
     all_kept : (ys : List PlanFinding) → length ys ≤ lines_limit → index ≤ length ys → take lines_limit (insert ys index x) ≡ ys
