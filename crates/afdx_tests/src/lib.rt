@@ -11,6 +11,8 @@ mod library_call;
 #[cfg(test)]
 mod order_tests;
 #[cfg(test)]
+mod parts_tests;
+#[cfg(test)]
 mod pausing_tests;
 #[cfg(test)]
 mod rig;
