@@ -113,8 +113,8 @@ abbrev pub network_numbered : ℕ → Option Net
 network_numbered number =
     if nat_eq number 0 then Some A else (if nat_eq number 1 then Some B else None)
 
--- the network of an interface: the network that it is named after, if any interface of the section has the name of a
--- network
+-- the network of an interface: the network that it is named after, if any interface that the section has described so
+-- far has the name of a network
 abbrev pub network_of : List Interface → ℕ → Option Net
 network_of interfaces number =
     if list_any (λ (i : Interface). is_some i.name) interfaces then network_named (slice_get interfaces number)

@@ -1,4 +1,4 @@
-//! The frames of two networks, as one capture in the pcapng format.
+//! Captures: pcapng and pcap are read, and the frames of two networks are written as one pcapng.
 #![tactic(auto)]
 
 mod in_order;

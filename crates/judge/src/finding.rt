@@ -49,7 +49,8 @@ pub enum FindingKind {
     Size,
     /// The sequence number is `seen`, and the next is `wanted`. A `Restart` isn't told so.
     Number,
-    /// The frame comes `seen` nanoseconds after the frame before it (0 if before it), and should come `wanted` or more.
+    /// The frame comes `seen` nanoseconds after the frame before it (0 if before it), and should come `wanted` or more;
+    /// 0 if the jitter exceeds the BAG, and its time is before that frame's.
     Early,
     /// No port has the frame's sub-VL, partition, destination and UDP ports. `seen` is its source UDP port, `wanted` is
     /// 0.
@@ -68,7 +69,7 @@ pub enum FindingKind {
     /// `seen` is its sequence number, `wanted` is 0.
     Missing,
     /// The sequence number is 0, `seen`, though the link was heard before, and its last number wasn't 255: the link's
-    /// transmitter restarted. The next number is `wanted`.
+    /// transmitter restarted. The number that was due is `wanted`.
     Restart,
 }
 

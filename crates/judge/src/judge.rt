@@ -24,7 +24,7 @@ use std::marker::Model;
 /// The tolerances of a judge, and the way the recording was made. All are zero and false by default.
 #[derive(Clone, Copy, Debug, Default, PartialEq, Eq)]
 pub struct Options {
-    /// The greatest time in microseconds from a frame's release to its recorded time.
+    /// The variation of the time from a frame's release to its recording, at most, in microseconds.
     pub jitter: u64,
     /// The greatest time in microseconds between a frame and its twin.
     pub skew: u64,
@@ -154,8 +154,8 @@ impl Judge {
     }
 
     /// Judges a packet that was recorded on a network: appends the missing frames that it shows, and then its own
-    /// findings. The packets of each network come in their order. Fails if memory runs out: then nothing more can be
-    /// said of the recording.
+    /// findings. The packets of each network come in their order, and those of both in order of time: a frame is told as
+    /// missing if its twin comes much later. Fails if memory runs out: then nothing more can be said of the recording.
     #[tactic(auto, unfolding(crate::specs::Judging::after_packet, crate::specs::Judging::found_with_packet, crate::specs::Judging::admitted))]
     pub fn take(
         &mut self,

@@ -49,8 +49,9 @@ impl Tap {
         }
     }
 
-    /// Adds the judge of a plan, in the place of one of the same end system. Fails only if memory runs out: then
-    /// nothing can be said of a recording.
+    /// Adds the judge of a plan. No plan before it may have the same end system, which `clashes` finds: it would take
+    /// that plan's place, and its missing frames would be told twice. Fails only if memory runs out: then nothing can
+    /// be said of a recording.
     pub fn add(&mut self, alloc: Global, plan: Config, options: Options) -> Result<(), AllocError>
         ensures { OnOk result (self.new ≡ with_judge plan options self.old) }
     {
