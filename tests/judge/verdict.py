@@ -162,9 +162,9 @@ class Judge:
         vl = half(frame, 4)
         if vl not in self.links:
             raise Refused(vl, "Link", "", "")
-        wanted = self.options.byte_11()[network] if network in self.nets(self.links[vl]) else 0
-        if frame[11] != wanted:
-            raise Refused(vl, "Network", "", differ(frame[11], wanted))
+        own, carries = self.options.byte_11()[network], network in self.nets(self.links[vl])
+        if frame[11] != own or not carries:
+            raise Refused(vl, "Network", "", differ(frame[11], own if carries else 0))
 
     def near(self, one: int, other: int) -> bool:
         """Whether two times are within the skew."""
