@@ -154,7 +154,7 @@ impl Judge {
     }
 
     /// Judges a packet that was recorded on a network: appends the missing frames that it shows, and then its own
-    /// findings. The packets of each network come in their order, and those of both in order of time: a frame is told as
+    /// findings. The packets of a network come in their order, and those of both in order of time: a frame is told as
     /// missing if its twin comes much later. Fails if memory runs out: then nothing more can be said of the recording.
     #[tactic(auto, unfolding(crate::specs::Judging::after_packet, crate::specs::Judging::found_with_packet, crate::specs::Judging::admitted))]
     pub fn take(
