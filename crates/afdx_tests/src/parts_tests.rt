@@ -1,11 +1,12 @@
-//! Tests of a queue, of a board, and of the readers of frames, each alone.
+//! Tests of a queue, of a board, of cutting a message, and of the readers of frames, each alone.
 ghost use Rattle.std.specs.Prelude.{◌≡◌, None, length, slice_index_or};
+ghost use Rattle.afdx_plan.specs.Plan.{IsPort, SendsOver};
 ghost use Rattle.subvl_queue.specs.Messages.{room_with};
 ghost use Rattle.subvl_queue.specs.Views.{AreOf, SenderView};
 
 use crate::testing::*;
-use afdx_frame::vl_of;
-use afdx_plan::VlId;
+use afdx_frame::{Cut, Net, ident_of, more_of, offset_of, sn_of, sub_of, vl_of};
+use afdx_plan::{LinkPlan, PortPlan, VlId, demo_config};
 use status_board::{Counts, open_board};
 use subvl_queue::{Receiver, Room, Sender, Why, make};
 
@@ -115,4 +116,56 @@ fn a_frame_cut_short_or_with_other_padding_has_no_link(rt: HostRuntime) {
     let mut padded = FRAME;
     padded[50] = 1;
     assert_same(&rt, vl_of(&padded), None);
+}
+
+/// Returns the port and the link of the demonstration.
+fn demo_flow(rt: &impl Host) -> (PortPlan, LinkPlan)
+    ensures port { IsPort result.0 }
+    ensures over { SendsOver result.0 result.1 }
+{
+    let Ok(config) = demo_config(rt.alloc()) else {
+        panic!(rt; "no memory");
+    };
+    if config.ports().is_empty() || config.links().is_empty() {
+        panic!(rt; "no port");
+    }
+    let (port, link) = (config.ports()[0], config.links()[0]);
+    if link.id != port.vl || port.sub >= link.sub_vls {
+        panic!(rt; "a port of another link");
+    }
+    (port, link)
+}
+
+/// Asserts the fields of a frame of the demonstration's first message: its number, its offset in units of 8 bytes, and
+/// whether more pieces follow.
+fn assert_fields(rt: &impl Abort, frame: &[u8], number: u8, offset: u16, more: bool) {
+    assert_same(rt, (vl_of(frame), sub_of(frame)), (Some(VlId(1)), Some(0)));
+    assert_same(rt, (sn_of(frame), ident_of(frame)), (Some(number), Some(0)));
+    assert_same(
+        rt,
+        (offset_of(frame), more_of(frame)),
+        (Some(offset), Some(more)),
+    );
+}
+
+#[test]
+fn a_message_of_1472_bytes_is_cut_in_two_whose_fields_are_read(rt: HostRuntime) {
+    let (port, link) = demo_flow(&rt);
+    let Ok(message) = Vec::from_elem(rt.alloc(), 0xaau8, 1_472) else {
+        panic!(&rt; "no memory");
+    };
+    let mut cut = Cut::new(message, 0, &port);
+    let (Some(first), Some(second)) = (
+        cut.next_frame(&link, 1, 0, Net::A),
+        cut.next_frame(&link, 1, 1, Net::A),
+    ) else {
+        panic!(&rt; "fewer than two pieces");
+    };
+    assert_same(
+        &rt,
+        (first.len(), second.len(), cut.is_done()),
+        (1_507, 60, true),
+    );
+    assert_fields(&rt, first.as_slice(), 0, 0, true);
+    assert_fields(&rt, second.as_slice(), 1, 184, false);
 }

@@ -49,8 +49,8 @@ pub enum FindingKind {
     Size,
     /// The sequence number is `seen`, and the next is `wanted`. A `Restart` isn't told so.
     Number,
-    /// The frame comes `seen` nanoseconds after the frame before it (0 if before it), and should come `wanted` or more;
-    /// 0 if the jitter exceeds the BAG, and its time is before that frame's.
+    /// The frame comes `seen` nanoseconds after the frame before it (0 if before it), and should come `wanted` or more.
+    /// With a jitter of a BAG or more that may be 0, and only a frame with an earlier time is then told.
     Early,
     /// No port has the frame's sub-VL, partition, destination and UDP ports. `seen` is its source UDP port, `wanted` is
     /// 0.

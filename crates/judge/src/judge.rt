@@ -24,7 +24,7 @@ use std::marker::Model;
 /// The tolerances of a judge, and the way the recording was made. All are zero and false by default.
 #[derive(Clone, Copy, Debug, Default, PartialEq, Eq)]
 pub struct Options {
-    /// The variation of the time from a frame's release to its recording, at most, in microseconds.
+    /// The most by which the time from a frame's release to its recording varies, in microseconds.
     pub jitter: u64,
     /// The greatest time in microseconds between a frame and its twin.
     pub skew: u64,

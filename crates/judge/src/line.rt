@@ -57,7 +57,7 @@ pub(crate) struct Measure {
     pub(crate) sub_vls: u8,
     /// The least time in nanoseconds between the releases of two frames.
     pub(crate) gap: u64,
-    /// The variation of the time from a frame's release to its recording, at most, in nanoseconds.
+    /// The most by which the time from a frame's release to its recording varies, in nanoseconds.
     pub(crate) jitter: u128,
     /// The recording began after the end system.
     pub(crate) late: bool,
@@ -126,7 +126,7 @@ fn is_beside(measure: &Measure, fields: &Fields) -> bool
     measure.arinc && fields.icmp
 }
 
-/// Returns the first sub-VL with a piece due whose last frame came before frame `came`, the last one of a frame's own.
+/// Returns the first sub-VL with a piece due whose last frame came before frame `came` of the line.
 fn passed_by(subs: &[Sub], came: u64) -> Option<usize>
     ensures { result ≡ due_before came subs.now }
 {
