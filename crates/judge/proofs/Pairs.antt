@@ -1,5 +1,5 @@
--- The first element that passes a test.
-use Rattle.judge.proofs.Names.{◌≡◌, ℕ, ◌≤◌, Bool, true, false, List, length, get_or, Some, None, refl, cond, find, position, nat_lt, position_or_len, find_at, position-Some, slice_get_read, slice_get_past}
+-- The first element that passes a test, and the first place at which bytes differ.
+use Rattle.judge.proofs.Names.{◌≡◌, ℕ, ◌+◌, [], ◌∷◌, first_other, arith, nat_tests, bytes_eq, bytes_eq-Decides, ◌≤◌, Bool, true, false, List, length, get_or, Some, None, refl, cond, find, position, nat_lt, position_or_len, find_at, position-Some, slice_get_read, slice_get_past}
 use borrow.Author.Tests.{ltb-false}
 
 -- its place
@@ -25,3 +25,11 @@ none_is {X} p xs at = rw (find_at p xs) (slice_get_past xs (position_or_len p xs
         → cond t (Some (position_or_len p xs)) None ≡ None → length xs ≤ position_or_len p xs
     past true test is = cc
     past false test is = ltb-false (position_or_len p xs) (length xs) test
+
+-- equal bytes differ nowhere
+pub same_bytes : (i : ℕ) (xs ys : List ℕ) → bytes_eq xs ys ≡ true → first_other i xs ys ≡ None
+same_bytes i xs ys same = rw (← (bytes_eq-Decides xs ys).0 same) (none_in i xs)
+  where
+    none_in : (i : ℕ) (xs : List ℕ) → first_other i xs xs ≡ None
+    none_in i [] = refl
+    none_in i (x ∷ xs) = grind (arith, nat_tests, none_in (i + 1) xs)

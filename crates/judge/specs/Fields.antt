@@ -26,7 +26,7 @@ fields_of frame = record {
   };
   udp_len = word_at frame 38;
   udp_sum = word_at frame 40;
-  sum = word_sum (slice_range frame 34 (14 + total_length frame));
+  sum = word_sum (slice_range frame 34 (14 + total_length frame)) % 65535;
   ends = word_sum (slice_range frame 26 34);
 }
 
@@ -38,5 +38,4 @@ ends_message fields = not (fields.piece.more || fields.icmp)
 pub record AreSmall (fields : Fields) : Type 0 where
   pub start : fields.piece.start ≤ 65528
   pub len : fields.piece.len ≤ 1500
-  pub sum : fields.sum ≤ 98302500
   pub ends : fields.ends ≤ 524280

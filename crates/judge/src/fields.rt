@@ -5,7 +5,8 @@ ghost use Rattle.judge.specs.Fields.{ends_message, fields_of, AreSmall};
 ghost use Rattle.afdx_frame.specs.Layout.{IsReadable};
 
 use afdx_frame::field::{self, OFFSET_MODULUS, has_more, is_icmp};
-use afdx_frame::{word_at, word_sum};
+use afdx_frame::word_at;
+use internet_sum::{word_sum, word_sum_modulo};
 
 /// The fields of a frame.
 #[derive(Clone, Copy)]
@@ -19,8 +20,8 @@ pub(crate) struct Fields {
     /// The UDP length and checksum, in a first piece.
     pub(crate) udp_len: u16,
     pub(crate) udp_sum: u16,
-    /// The sum of the words of the piece.
-    pub(crate) sum: u32,
+    /// The sum of the words of the piece, modulo 65,535.
+    pub(crate) sum: u16,
     /// The sum of the words of the addresses.
     pub(crate) ends: u32,
 }
@@ -82,7 +83,7 @@ pub(crate) fn fields_of(frame: &[u8]) -> Fields
         },
         udp_len: word_at(frame, field::UDP_LENGTH),
         udp_sum: word_at(frame, field::UDP_CHECKSUM),
-        sum: word_sum(&frame[field::DATA..field::VERSION + total as usize]),
+        sum: word_sum_modulo(&frame[field::DATA..field::VERSION + total as usize]),
         ends: word_sum(&frame[field::SOURCE..field::DATA]),
     }
 }

@@ -193,7 +193,7 @@ impl Joining {
         ensures { result ≡ head_now port fields.now self.now }
     {
         if fields.piece.start == 0 {
-            let sum = fields.ends + fields.sum + (0xffff - fields.udp_sum as u32);
+            let sum = fields.ends + fields.sum as u32 + (0xffff - fields.udp_sum as u32);
             return Some(Head {
                 port: port?,
                 udp_len: fields.udp_len,
@@ -204,7 +204,7 @@ impl Joining {
         match self {
             Joining::Within(open) => {
                 let head = open.head?;
-                let sum = head.sum as u32 + fields.sum;
+                let sum = head.sum as u32 + fields.sum as u32;
                 Some(Head {
                     sum: (sum % 0xffff) as u16,
                     ..head

@@ -109,11 +109,16 @@ impl Nearness {
     }
 }
 
-/// Returns the first place at which bytes differ, counted from `from`.
+/// Returns the first place at which bytes differ, counted from `from`. Twins are mostly equal, and `==` compares bytes in
+/// groups, so only bytes that differ are compared one by one.
+#[tactic(auto, using(crate::proofs::Pairs::same_bytes))]
 fn first_other(from: usize, a: &[u8], b: &[u8]) -> Option<usize>
     requires { from ≤ 12 }
     ensures { result ≡ first_other from a.now b.now }
 {
+    if a == b {
+        return None;
+    }
     let (mut place, mut rest_a, mut rest_b) = (from, a, b);
     'bytes: while let [x, after_a @ ..] = rest_a {
         let [y, after_b @ ..] = rest_b else {
