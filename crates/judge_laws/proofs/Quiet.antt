@@ -16,7 +16,7 @@ pub record Tells (end_system : ℕ) (port : PortPlan) (given : List ℕ) (head :
 
 -- with one more piece
 pub tells_more : (end_system : ℕ) (port : PortPlan) (given body : List ℕ) (head : Head) (fields : Fields)
-    → Tells end_system port given head → length given % 2 ≡ 0 → ((i : ℕ) → get_or body i 0 < 256) → fields.sum ≡ word_sum body
+    → Tells end_system port given head → length given % 2 ≡ 0 → ((i : ℕ) → get_or body i 0 < 256) → fields.sum ≡ word_sum body % 65535
     → Tells end_system port (given ++ body) (head_with head fields)
 tells_more end_system port given body head fields tells even octets sum =
     let here = λ (i : ℕ) (below : i < 8). get_or_append_left given body 0 i (omega (arith, tells.long)) in
@@ -244,7 +244,7 @@ module _ {plan : Plan} {k s : ℕ} {net : Net} {joining : Joining} {frame : List
         omega (arith, length-take (total_length frame - 20) (drop 34 frame), length-drop 34 frame),
       )
 
-  sum_is : (fields_of frame).sum ≡ word_sum (body_in frame)
+  sum_is : (fields_of frame).sum ≡ word_sum (body_in frame) % 65535
   unfolding fields_of
   sum_is = grind (arith, nat_tests, quiet.admitted.profile)
 

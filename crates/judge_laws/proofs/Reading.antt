@@ -113,7 +113,7 @@ pub record Carries (end_system : ℕ) (port : PortPlan) (message : List ℕ) (pl
   pub more : fields.piece.more ≡ piece.more
   pub partition : fields.flow.partition ≡ port.partition
   pub address : fields.flow.address ≡ address_number (destination_address port)
-  pub sum : fields.sum ≡ word_sum (take piece.len (drop piece.start (datagram end_system port message)))
+  pub sum : fields.sum ≡ word_sum (take piece.len (drop piece.start (datagram end_system port message))) % 65535
   pub ends : fields.ends ≡ word_sum (addresses end_system port)
   pub header : piece.start ≡ 0 → CarriesHeader end_system port message fields
 
@@ -185,7 +185,7 @@ module _ (end_system : ℕ) (port : PortPlan) (message : List ℕ) (place : ℕ)
         more = more_of frame s.frame.internet.flags ∙ s.more_says;
         partition = partition_is;
         address = omega (arith, at 0 (omega arith), at 1 (omega arith), at 2 (omega arith), at 3 (omega arith));
-        sum = ap word_sum (rw (many) body);
+        sum = ap (λ (xs : List ℕ). word_sum xs % 65535) (rw (many) body);
         ends = ap word_sum (ends_are is);
         header = header_is is most piece_is;
       }
