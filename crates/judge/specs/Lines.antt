@@ -1,5 +1,5 @@
 -- A link on a network: its sequence numbers, its gaps, the turns of its sub-VLs, and the messages of these.
-use Rattle.std.specs.Prelude.{ℕ, ◌+◌, ◌-◌, ◌%◌, ◌^◌, nat_eq, nat_lt, nat_le, ◌&&◌, ◌||◌, Bool, false, true, if◌then◌else◌, min, List, [], ◌∷◌, slice_set, get_or, position, take, unwrap_or, option_map, not, Option, Some, None}
+use Rattle.std.specs.Prelude.{ℕ, ◌+◌, ◌-◌, ◌%◌, nat_eq, nat_lt, nat_le, ◌&&◌, ◌||◌, Bool, false, true, if◌then◌else◌, min, List, [], ◌∷◌, slice_set, get_or, position, take, unwrap_or, option_map, not, Option, Some, None}
 use Rattle.std.specs.Option.{is_some, option_map_or}
 use Rattle.judge.specs.Deviations.{deviation, first_of}
 use Rattle.judge.specs.Fields.{ends_message}

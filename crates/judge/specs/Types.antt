@@ -24,7 +24,7 @@ pub use Rattle.judge.specs.declared.figures.Figures.{Figures}
 pub use Rattle.judge.specs.declared.figures.Total.{Total}
 pub use Rattle.judge.specs.declared.line.Line.{Line}
 pub use Rattle.judge.specs.declared.line.Measure.{Measure}
-pub use Rattle.judge.specs.declared.line.Sub.{Sub}
+pub use Rattle.judge.specs.declared.sub.Sub.{Sub}
 pub use Rattle.judge.specs.declared.line.Verdict.{Verdict}
 pub use Rattle.judge.specs.declared.link.Link.{Link}
 pub use Rattle.judge.specs.declared.link.Setting.{Setting}

@@ -12,6 +12,7 @@ mod line;
 mod link;
 mod merging;
 mod rules;
+mod sub;
 mod times;
 mod twins;
 

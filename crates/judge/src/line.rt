@@ -1,13 +1,14 @@
 //! A link on a network: its numbers, its gaps and its sub-VLs.
-ghost use Rattle.std.specs.Prelude.{◌≡◌, ◌+◌, ◌≤◌, ◌<◌, ◌%◌, if◌then◌else◌, slice_set, true, false};
+ghost use Rattle.std.specs.Prelude.{◌≡◌, if◌then◌else◌, true, false};
 ghost use Rattle.std.specs.Option.{is_some};
 ghost use Rattle.judge.specs.Fields.{AreSmall};
-ghost use Rattle.judge.specs.Lines.{new_sub, new_line, next_number, number_kind, number_unless, number_deviation, gap_since, early_since, early_deviation, delay_after, unsettled_sub, unsettled, restarted, is_restart, is_beside, line_counted, excused_sub, excused, turn_deviation, due_before, unknown_place, going_on, sub_at, joining_at, port_deviation, sub_in, sub_shown, sub_of, figures_with, joining_after, message_after, line_joined, line_with, line_after, verdict, after_number, after_turn};
+ghost use Rattle.judge.specs.Lines.{new_line, next_number, number_kind, number_deviation, gap_since, early_deviation, delay_after, unsettled, is_beside, line_counted, turn_deviation, sub_at, joining_at, sub_of, figures_with, line_joined, line_after, verdict, after_number, after_turn};
 
 use crate::fields::Fields;
 use crate::figures::Figures;
 use crate::finding::{Deviation, FindingKind};
 use crate::joining::{Joining, ended, port_deviation};
+use crate::sub::{Sub, going_on, passed_by, sub_in, unknown_place, with_sub};
 use afdx_plan::PortPlan;
 
 /// The state of a link on a network.
@@ -26,16 +27,6 @@ pub(crate) struct Last {
     pub(crate) at: u128,
     /// The longest delay in nanoseconds that the frame may have had since its release.
     pub(crate) delay: u128,
-}
-
-/// The state of a sub-VL on a network.
-#[derive(Clone, Copy)]
-pub(crate) struct Sub {
-    pub(crate) joining: Joining,
-    /// The number of the link's frames up to the sub-VL's last one, 0 if it has none.
-    pub(crate) came: u64,
-    /// The next piece of its message is due before a second frame of another sub-VL.
-    pub(crate) due: bool,
 }
 
 /// A frame that came: its time in nanoseconds, its length and its fields.
@@ -124,78 +115,6 @@ fn is_beside(measure: &Measure, fields: &Fields) -> bool
     ensures { result ≡ is_beside measure.now fields.now }
 {
     measure.arinc && fields.icmp
-}
-
-/// Returns the first sub-VL with a piece due whose last frame came before frame `came` of the line.
-fn passed_by(subs: &[Sub], came: u64) -> Option<usize>
-    ensures { result ≡ due_before came subs.now }
-{
-    subs.iter().position(|s| s.due && s.came < came)
-}
-
-/// Returns the sub-VL that a frame's identification gives.
-pub(crate) fn sub_in(fields: &Fields) -> u8
-    ensures { result ≡ sub_in fields.now }
-{
-    (fields.piece.ident % 4) as u8
-}
-
-/// Returns the first one of a link's `count` sub-VLs without knowledge of its message.
-fn unknown_place(count: u8, subs: &[Sub]) -> Option<usize>
-    ensures { result ≡ unknown_place count subs.now }
-{
-    subs.iter()
-        .take(count as usize)
-        .position(|s| matches!(s.joining, Joining::Any))
-}
-
-/// Returns the first sub-VL with a message that a piece continues.
-fn going_on(fields: &Fields, subs: &[Sub]) -> Option<usize>
-    ensures { result ≡ going_on fields.now subs.now }
-{
-    subs.iter().position(|s| s.joining.goes_on(fields))
-}
-
-/// Returns the four sub-VLs with `after` in the place of `sub`, if that is below 4.
-fn with_sub(subs: [Sub; 4], sub: u8, after: Sub) -> [Sub; 4]
-    ensures { result ≡ slice_set subs sub after }
-{
-    let mut subs = subs;
-    if sub < 4 {
-        subs[sub as usize] = after;
-    }
-    subs
-}
-
-impl Sub {
-    /// Creates a sub-VL without frames.
-    fn new(late: bool, arinc: bool, sub: u16) -> Sub
-        ensures { result ≡ new_sub late arinc sub }
-    {
-        let joining = if late {
-            Joining::Any
-        } else if arinc {
-            Joining::After(None)
-        } else {
-            Joining::Between(sub)
-        };
-        Sub {
-            joining,
-            came: 0,
-            due: false,
-        }
-    }
-
-    /// Returns the sub-VL, with no piece due. After a loss nothing is known of its message.
-    fn undue(&self, lost: bool) -> Sub
-        ensures { result ≡ (if lost then unsettled_sub self.now else excused_sub self.now) }
-    {
-        Sub {
-            joining: if lost { Joining::Any } else { self.joining },
-            due: false,
-            ..*self
-        }
-    }
 }
 
 impl Line {
