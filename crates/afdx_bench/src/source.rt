@@ -15,6 +15,9 @@ use tx_script::RunFault;
 // The bytes of the window: any unit fits in one half.
 const WINDOW: usize = 2 * GREATEST_UNIT;
 
+// The most bytes that are read at once. They stay in the processor's cache until they are judged.
+const PIECE: usize = 0x1_0000;
+
 /// The packets of a capture that are judged, and their networks.
 #[derive(Clone, Copy)]
 pub enum Part {
@@ -264,7 +267,9 @@ impl<'a> Source<'a> {
             .copy_within(self.start..self.end, 0);
         self.end -= self.start;
         self.start = 0;
-        match read_some(&mut self.file, &mut self.window.as_mut_slice()[self.end..]) {
+        let room = &mut self.window.as_mut_slice()[self.end..];
+        let most = room.len().min(PIECE);
+        match read_some(&mut self.file, &mut room[..most]) {
             Some(count) => {
                 self.end += count;
                 Ok(count > 0)
