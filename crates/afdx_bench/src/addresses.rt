@@ -1,13 +1,11 @@
 //! A maker's own addresses in frames: the words for them, and packets and findings of such frames.
 use afdx_frame::Net;
 use afdx_frame::net::{INTERFACE_A, INTERFACE_B};
-use bench_json::AddressingRow;
-use bench_words::Case;
+use bench_words::{AddressingRow, Case};
 use capture::Packet;
-use judge::Finding;
+use judge::{Addressing, CONSTANT, Finding};
 use std::alloc::{AllocError, Global};
 use std::fmt;
-use tap::{Addressing, CONSTANT};
 
 /// Returns the addressing that the words give, if they give a part of one; the profile has the other part.
 pub fn addressing_of(case: &Case) -> Option<Addressing> {

@@ -3,8 +3,7 @@ use crate::files::open;
 use crate::network::{open_network, paths_of};
 use crate::stop::{Cause, Stop, of_file};
 use afdx_config::explain_file;
-use bench_json::{check_document, explain_document};
-use bench_words::{End, check, read_text, tell_faults};
+use bench_words::{End, check, check_document, explain_document, read_text, tell_faults};
 use plan_report::write_report;
 use std::io::Write;
 

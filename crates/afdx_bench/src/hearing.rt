@@ -8,11 +8,10 @@ use crate::stop::Stop;
 use afdx_frame::Net;
 use afdx_plan::{Config, LinkPlan};
 use capture::Packet;
-use judge::{Figures, Finding, FindingKind, Judge, Options};
+use judge::{Addressing, Figures, Finding, FindingKind, Judge, Options, Tap};
 use plan_analysis::carries;
 use std::alloc::{AllocError, Global};
 use std::io::{self, Write};
-use tap::{Addressing, Tap};
 
 // The nanoseconds of a second.
 const SECOND: u128 = 1_000_000_000;

@@ -5,7 +5,7 @@ use crate::files::{open, open_plan};
 use crate::stop::{Cause, Stop, of_file};
 use bench_words::{End, read_text};
 use interface_file::{PortTraffic, flows_of, import, sendings_until, write_script};
-use interface_sheet::Others;
+use plan_report::sheet::Others;
 use plan_report::{Traffic, read_traffic};
 use std::alloc::{AllocError, Global};
 use std::io::Write;

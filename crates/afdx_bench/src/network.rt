@@ -4,11 +4,11 @@ use crate::stop::{Cause, Stop, of_file};
 use afdx_config::{Place, id_line};
 use afdx_plan::Config;
 use bench_words::{read_digested, read_text};
+use judge::{Clash, Shared, clashes};
 use plan_report::Digested;
 use std::alloc::{AllocError, Global};
 use std::fs::File;
 use std::io;
-use tap::{Clash, Shared, clashes};
 
 /// The plans of a network in their order, the files that they were read from, and the digests of their texts.
 #[derive(Drop)]

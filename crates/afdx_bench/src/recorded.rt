@@ -6,11 +6,10 @@ use crate::hearing::Hearing;
 use crate::link_row::LinkRow;
 use crate::source::Source;
 use afdx_frame::Net;
-use bench_json::{
-    CaptureRow, FindingRow, ForeignRow, Judged, JudgedLink, JudgedPlan, KindRow, TakenRow,
+use bench_words::{
+    CaptureRow, Case, FindingRow, ForeignRow, Judged, JudgedLink, JudgedPlan, KindRow, TakenRow,
     hundredths,
 };
-use bench_words::Case;
 use judge::{Finding, FindingKind, Judge};
 use std::alloc::{AllocError, Global};
 

@@ -6,8 +6,9 @@ use crate::interface::{tell_others, tell_traffic};
 use crate::network::{open_network, paths_of};
 use crate::stop::{Cause, Stop, of_file};
 use afdx_plan::Config;
-use bench_json::{ReportedPlan, report_document, reported_plan};
-use bench_words::{Asked, End, read_digested, read_text};
+use bench_words::{
+    Asked, End, ReportedPlan, read_digested, read_text, report_document, reported_plan,
+};
 use csv::{ErrorKind, WriterBuilder};
 use plan_analysis::{Analysis, LATENESS_LIMIT, analyze, traffic_bounds};
 use plan_report::{

@@ -6,7 +6,6 @@ pub mod LegalLinks
 pub mod LegalSpacing
 pub mod ListLemmas
 pub mod Losing
-mod Names
 pub mod NextFragment
 pub mod OneBuffer
 pub mod OneNetwork
@@ -16,3 +15,49 @@ pub mod Skewed
 pub mod WorkedDemo
 pub mod WorkedMessage
 pub mod WorkedPieces
+pub mod Used
+pub mod PollStep
+pub mod Ran
+pub mod NextRun
+pub mod KeepReady
+pub mod WorkedRuns
+pub mod Groups
+pub mod GroupPolls
+pub mod Timely
+pub mod PiecesInRun
+pub mod MessageRun
+pub mod EmitterRuns
+pub mod NeededRuns
+pub mod QuietPolls
+pub mod KeptPeriods
+pub mod GroupWait
+pub mod Mates
+pub mod Backlog
+pub mod Owed
+pub mod TrafficRun
+pub mod LoneRun
+pub mod TrafficRows
+pub mod GroupRows
+pub mod FullRun
+pub mod FullRows
+pub mod Begin
+pub mod Copies
+pub mod Following
+pub mod Leading
+pub mod Line
+pub mod Meeting
+pub mod Message
+pub mod Pieces
+pub mod Quiet
+pub mod ReadFrames
+pub mod Recording
+pub mod Releases
+pub mod SentTo
+pub mod Silent
+pub mod Wanted
+pub mod Whole
+pub mod WorkedFindings
+pub mod WorkedTwins
+mod Names
+mod RunNames
+mod JudgeNames

@@ -1,6 +1,10 @@
-//! Laws that receivers, switches and integrators can rely on. This crate builds no receiver and no switch: specs/
-//! defines them for the statements.
+//! Laws that receivers, switches and integrators can rely on, laws over runs of an emitter, which the contracts of its
+//! calls imply together, and laws on the meaning of a judge's findings. This crate builds no receiver and no switch:
+//! specs/ defines them for the statements. Each function is empty or one call.
 #![tactic(auto)]
 
-pub mod laws;
+pub mod findings;
+pub mod polling;
+pub mod receivers;
+pub mod runs;
 pub mod switching;

@@ -1,7 +1,7 @@
 //! The columns of an interface document, and the values that their cells may have.
 ghost use Rattle.std.specs.Prelude.{◌<◌};
 
-use interface_sheet::COLUMNS;
+use plan_report::sheet::COLUMNS;
 
 /// The subject of a column.
 #[derive(Clone, Copy, PartialEq, Eq)]

@@ -8,7 +8,7 @@ use crate::plan_text::{is_identifier, links_of, plan_text};
 use crate::reading::{Document, PortCells, read_document};
 use afdx_config::{Explanation, Place, PlanFinding, explain, read_config};
 use afdx_plan::{ConfigFault, LINKS_LIMIT};
-use interface_sheet::{Others, quoted, seen};
+use plan_report::sheet::{Others, quoted, seen};
 use std::alloc::{AllocError, Global};
 
 /// The result of importing an interface document.

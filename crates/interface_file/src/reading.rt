@@ -5,7 +5,7 @@ use crate::columns::{Column, Content, Subject, column_at};
 use crate::faults::{Faults, Wrong};
 use afdx_plan::PORTS_LIMIT;
 use csv::{ByteRecord, ReaderBuilder};
-use interface_sheet::{
+use plan_report::sheet::{
     COLUMNS, Others, bare, column_of, is_empty, line_of, seen, separator_of, whole,
 };
 use std::alloc::{AllocError, Global};

@@ -12,3 +12,7 @@ pub mod Times
 pub mod Twins
 pub mod Types
 pub mod Waiting
+pub mod Addresses
+pub mod Apart
+pub mod Tap
+pub mod Network

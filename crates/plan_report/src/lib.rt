@@ -11,6 +11,7 @@ mod page;
 mod page_loads;
 mod page_waits;
 mod queues;
+pub mod sheet;
 mod sums;
 mod time_line;
 mod traffic;

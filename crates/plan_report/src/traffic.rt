@@ -1,7 +1,7 @@
 //! The traffic of a plan: names, periods, jitters and deadlines of its ports, read from a CSV text.
+use crate::sheet::{self, Others, bare, column_of, is_empty, line_of, seen, separator_of, whole};
 use afdx_plan::Config;
 use csv::{ByteRecord, ReaderBuilder};
-use interface_sheet::{Others, bare, column_of, is_empty, line_of, seen, separator_of, whole};
 use script_text::number;
 use std::alloc::{AllocError, Global};
 use std::fmt;
@@ -175,7 +175,7 @@ impl Reading<'_> {
         for place in 0..row.len() {
             let field = row.get(place).unwrap_or(b"");
             match column_of(&COLUMNS, field) {
-                None if column_of(&interface_sheet::COLUMNS, field).is_some() => {}
+                None if column_of(&sheet::COLUMNS, field).is_some() => {}
                 None => self.traffic.others.add(field)?,
                 Some(column) if self.places[column].is_some() => {
                     return self.add(Some(COLUMNS[column]), Wrong::SecondColumn);

@@ -1,4 +1,0 @@
-//! Laws on the meaning of a judge's findings.
-#![tactic(auto)]
-
-pub mod laws;

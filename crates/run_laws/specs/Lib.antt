@@ -1,9 +1,0 @@
-pub mod Runs
-pub mod WorkedRun
-pub mod MessageInRun
-pub mod TrafficInRun
-pub mod GroupInRun
-pub mod TrafficRow
-pub mod NeverFull
-pub mod FullRow
-pub mod GroupRow

@@ -1,4 +1,0 @@
-pub mod Addresses
-pub mod Apart
-pub mod Tap
-pub mod Network
