@@ -109,8 +109,8 @@ impl Nearness {
     }
 }
 
-/// Returns the first place at which bytes differ, counted from `from`. Most twins are equal, and `==` compares many bytes
-/// at once: only bytes that differ are compared one by one.
+/// Returns the first place at which bytes differ, counted from `from`. Most twins are equal, and `==` compares many
+/// bytes at once: only bytes that differ are compared one by one.
 #[tactic(auto, using(crate::proofs::Pairs::same_bytes))]
 fn first_other(from: usize, a: &[u8], b: &[u8]) -> Option<usize>
     requires { from ≤ 12 }
