@@ -1,10 +1,10 @@
 //! The addresses of a maker whose frames have another constant field or other interface bytes than the profile's.
-ghost use Rattle.std.specs.Prelude.{◌≡◌, Ok, OnOk, IfSome, IfNone, IsErr};
-ghost use Rattle.judge.specs.Rules.{checked};
+ghost use Rattle.std.specs.Prelude.{◌≡◌, OnOk};
 ghost use Rattle.judge.specs.Addresses.{exchanged, interface_as, interface_from, number_from, frame_as, packet_as, told_as};
 
 use crate::check_sequence::check_sequence;
 use crate::finding::{Finding, FindingKind};
+use crate::rules::checked;
 use afdx_frame::field;
 use afdx_frame::net::{INTERFACE_A, INTERFACE_B};
 use byteorder::{ByteOrder, LittleEndian};
@@ -31,23 +31,6 @@ fn exchanged(one: u8, other: u8, byte: u8) -> u8
         one
     } else {
         byte
-    }
-}
-
-/// Returns the bytes before a right check sequence, with which they end.
-#[tactic(auto, unfolding(crate::specs::Rules::checked))]
-fn checked(bytes: &[u8]) -> Option<&[u8]>
-    ensures some { IfSome result (λ frame. checked bytes.now ≡ Ok frame.now) }
-    ensures none { IfNone result (IsErr (checked bytes.now)) }
-{
-    if bytes.len() < 4 {
-        return None;
-    }
-    let (frame, check) = bytes.split_at(bytes.len() - 4);
-    if LittleEndian::read_u32(check) == check_sequence(frame) {
-        Some(frame)
-    } else {
-        None
     }
 }
 
@@ -96,7 +79,7 @@ impl Addressing {
             self.rewrite(room.as_mut_slice());
             return Ok(());
         }
-        let Some(frame) = checked(bytes) else {
+        let Ok(frame) = checked(bytes) else {
             return room.extend_from_slice(bytes);
         };
         room.extend_from_slice(frame)?;

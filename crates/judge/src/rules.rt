@@ -37,7 +37,7 @@ fn refusal(link: Option<VlId>, kind: FindingKind, seen: u64, wanted: u64) -> Ref
 
 /// Returns the bytes without their last four, if these are the right check sequence.
 #[tactic(auto, unfolding(crate::specs::Rules::checked))]
-fn checked(bytes: &[u8]) -> Result<&[u8], Refused>
+pub(crate) fn checked(bytes: &[u8]) -> Result<&[u8], Refused>
     ensures ok { IfOk result (λ frame. checked bytes.now ≡ Ok frame.now) }
     ensures err { IfErr result (λ why. checked bytes.now ≡ Err why) }
 {
