@@ -434,7 +434,10 @@ def try_lost_carrier(rig) -> tuple[list[str], str]:
     it lost, and the status is 4."""
     played = Played(rig, plan_of(1), script_of(1, 600, 8, 12), by_clock=True, cut="B")
     sent = {name: len(played.came[name]["frames"]) for name in NETWORKS}
-    took = {name: int(re.search(rf"(?m)^network {name}, .*: took (\d+) of \1 frames$", played.ran.stdout)[1]) for name in NETWORKS}
+    lines = {name: re.search(rf"(?m)^network {name}, .*: took (\d+) of \1 frames$", played.ran.stdout) for name in NETWORKS}
+    took = {name: int(it[1]) for name, it in lines.items() if it}
+    if len(took) < len(NETWORKS):
+        return [f"{played.ran}, came {sent}"], ""
     line = f"network B, wireB: lost {took['B'] - sent['B']} of these, by its counters: sent {sent['B']}, "
     is_told = line in played.ran.stdout and "wireA: lost" not in played.ran.stdout
     is_well = is_told and played.ran.returncode == 4 and sent["A"] == took["A"] and 5 < took["B"] - sent["B"] < took["B"] - 5
