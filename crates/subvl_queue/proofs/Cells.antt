@@ -1,6 +1,6 @@
 -- How the rule is kept when one cell and one seat change.
-use Rattle.subvl_queue.proofs.Names.{◌≡◌, ◌≢◌, ℕ, zero, suc, ◌+◌, ◌%◌, ◌<◌, ◌≤◌, ◌⊎◌, Bool, List, [], ◌∷◌, length, get_or, set, sym, refl, ◌∙◌, arith, length-set, get_or-set_other, some, Option, add-mod_right, ℕ_discrete, get_elem?, State, at_set, at_snoc, ◌++◌, ⊎_elim, subst, set_else, set_here, View, Role, Spent, Stage, Drew, Holding, owned, total, in_room, budget, shut_bit, Gone, Collects, Busy, Phase, free, writing, full, reading, Cell, holder, InPhase, CellOk, Has, Knows, Fits, Queue, AreGood, false, hand_of, found_of, wait_of, Path}
-use Rattle.subvl_queue.proofs.Totals.{sums}
+use Rattle.subvl_queue.proofs.Names.{ap, ◌*◌, ◌^◌, ◌≡◌, ◌≢◌, ℕ, zero, suc, ◌+◌, ◌%◌, ◌<◌, ◌≤◌, ◌⊎◌, Bool, List, [], ◌∷◌, length, get_or, set, sym, refl, ◌∙◌, arith, length-set, get_or-set_other, some, Option, add-mod_right, ℕ_discrete, get_elem?, State, at_set, at_snoc, ◌++◌, ⊎_elim, subst, set_else, set_here, View, Role, Receiver, Spent, in_hand, Stage, Drew, Holding, owned, total, in_room, budget, shut_bit, Gone, Collects, Busy, Phase, free, writing, full, reading, Cell, holder, InPhase, CellOk, Has, Knows, Fits, Queue, IsHonest, AreGood, false, hand_of, found_of, wait_of, Path}
+use Rattle.subvl_queue.proofs.Totals.{sums, total_le, hands_times, hand_budget}
 use mathlib.Core.Option as maybe
 
 abbrev pick : {P : Type 0} → Dec P → Cell → Cell → Cell
@@ -71,13 +71,13 @@ module _ {T : Type 0} where
   has_stays log log' c c' ph at item more same k = (same ∙ k.0, (k.1.0, k.1.1, more at k.1.0 k.1.2))
 
   -- The relation of a seat to its own slot is kept.
-  knows_stays : (t t' : ℕ) (log log' : List (ℕ × T)) (j : ℕ) (c c' : Cell) (at : ℕ) (item : Option (ℕ × T)) → Longer log log'
+  knows_stays : (t t' : ℕ) (log log' : List (ℕ × T)) (j : ℕ) (c c' : Cell) (at : ℕ) (item : Option (ℕ × T)) (port : ℕ) → Longer log log'
       → (holder c.1 ≡ suc j → Path Cell c' c) → (Path Cell c (at, reading j) → t' ≡ t)
-      → (st : Stage) → Knows t log j c at item st → Knows t' log' j c' at item st
-  knows_stays t t' log log' j c c' at item more same keep Drew k = has_stays log log' c c' (writing j) at item more (grind arith) k
-  knows_stays t t' log log' j c c' at item more same keep Holding k =
+      → (st : Stage) → Knows t log j c at item port st → Knows t' log' j c' at item port st
+  knows_stays t t' log log' j c c' at item port more same keep Drew k = (has_stays log log' c c' (writing j) at item more (grind arith) k.0, k.1, k.2)
+  knows_stays t t' log log' j c c' at item port more same keep Holding k =
       (has_stays log log' c c' (reading j) at item more (grind arith) k.0, k.1 ∙ sym (keep k.0.0))
-  knows_stays t t' log log' j c c' at item more same keep st k = tt
+  knows_stays t t' log log' j c c' at item port more same keep st k = tt
 
 module _ {T : Type 0} (Good : T → Type 0) where
   -- One good message more.
@@ -90,11 +90,19 @@ module _ {T S : Type 0} {boxed : Option (ℕ × T) → S} {Good : T → Type 0} 
     abbrev n : ℕ
     n = length s.homes
 
-    pub knows : (id : ℕ) (v : View T) (st : Stage) → get_elem? s.views id ≡ some v → v.stage ≡ st → Knows r.freed r.log id (r.cells (v.at % n)) v.at v.item st
+    pub knows : (id : ℕ) (v : View T) (st : Stage) → get_elem? s.views id ≡ some v → v.stage ≡ st → Knows r.freed r.log id (r.cells (v.at % n)) v.at v.item v.port st
     knows id v st at e = grind arith
 
-    pub fits : (id : ℕ) (v : View T) (ro : Role) → get_elem? s.views id ≡ some v → v.role ≡ ro → Fits (length s.views) r.freed r.log id v ro
+    pub fits : (id : ℕ) (v : View T) (ro : Role) → get_elem? s.views id ≡ some v → v.role ≡ ro → Fits r.made r.seat r.freed r.log id v ro
     fits id v ro at e = grind arith
+
+    pub hands_few : total in_hand s.views ≤ 64
+    hands_few =
+        let each : (j : ℕ) (v : View T) → get_elem? s.views j ≡ some v → 2 ^ 40 * in_hand v ≤ budget v = λ j v at.
+        hand_budget v.asks v.made v.stage v.role (λ e. (fits j v Receiver at e).4) (λ e. ap hand_of (fits j v Spent at e).1) in
+        let all = total_le (λ (v : View T). 2 ^ 40 * in_hand v) budget s.views each in
+        let times = hands_times s.views in
+        omega arith
 
     -- A seat that isn't busy holds no cell.
     pub holds_none : (id : ℕ) (v : View T) → get_elem? s.views id ≡ some v → (Busy v.stage → ⊥) → (i : ℕ) → i < n → holder (r.cells i).1 ≢ suc id
@@ -110,16 +118,16 @@ module _ {T S : Type 0} {boxed : Option (ℕ × T) → S} {Good : T → Type 0} 
         (grind arith) (grind arith) j d e refl
 
     pub roles_stay : (closed' : Bool) (log' : List (ℕ × T)) (id : ℕ) (v w u : View T) → get_elem? s.views id ≡ some v → w.role ≡ v.role
-        → Collects closed' log' s.views u → Collects closed' log' (set s.views id w) u
+        → Collects closed' log' r.seat s.views u → Collects closed' log' r.seat (set s.views id w) u
     roles_stay closed' log' id v w u at same g = grind (arith, gone_stays)
 
     -- What the receiver has collected still fits, if its own step or the change of the log keeps it.
     collects_after : (closed' : Bool) (log' : List (ℕ × T)) (id : ℕ) (v w : View T) → get_elem? s.views id ≡ some v → w.role ≡ v.role
-        → (id ≡ 0 → Collects closed' log' s.views w)
-        → (id ≢ 0 → (u : View T) → Collects r.closed r.log s.views u → Collects closed' log' s.views u)
-        → (u : View T) → get_elem? (set s.views id w) 0 ≡ some u → Collects closed' log' (set s.views id w) u
+        → (id ≡ 0 → Collects closed' log' r.seat s.views w)
+        → (id ≢ 0 → (u : View T) → Collects r.closed r.log r.seat s.views u → Collects closed' log' r.seat s.views u)
+        → (u : View T) → get_elem? (set s.views id w) 0 ≡ some u → Collects closed' log' r.seat (set s.views id w) u
     collects_after closed' log' id v w at same sees goes u e =
-        each_after s.views id w (λ j d. j ≡ 0 → Collects closed' log' (set s.views id w) d)
+        each_after s.views id w (λ j d. j ≡ 0 → Collects closed' log' r.seat (set s.views id w) d)
         (λ is. roles_stay closed' log' id v w w at same (sees is))
         (λ j d other e' is. roles_stay closed' log' id v w d at same (goes (λ z. other (is ∙ sym z)) d (grind arith)))
         0 u e refl
@@ -137,28 +145,33 @@ module _ {T S : Type 0} {boxed : Option (ℕ × T) → S} {Good : T → Type 0} 
       pub within : length r.log + total in_room s.views + found_of w.stage ≤ r.freed + n + found_of v.stage
       pub counted : late' + wait_of w.stage + v.asks ≤ r.late + wait_of v.stage + w.asks
       pub budgeted : budget w ≤ budget v
-      pub sees : id ≡ 0 → Collects closed' r.log s.views w
-      pub goes : id ≢ 0 → (u : View T) → Collects r.closed r.log s.views u → Collects closed' r.log s.views u
-      pub fit : Fits (length s.views) r.freed r.log id w w.role
-      pub knew : Knows r.freed r.log id (r.cells (w.at % n)) w.at w.item w.stage
+      pub sees : id ≡ 0 → Collects closed' r.log r.seat s.views w
+      pub goes : id ≢ 0 → (u : View T) → Collects r.closed r.log r.seat s.views u → Collects closed' r.log r.seat s.views u
+      pub fit : Fits r.made r.seat r.freed r.log id w w.role
+      pub knew : Knows r.freed r.log id (r.cells (w.at % n)) w.at w.item w.port w.stage
 
-    pub quiet : (words' : List ℕ) (id late' : ℕ) (closed' : Bool) (v w : View T) → Quiet words' id late' closed' v w
+    pub quiet : (words' : List ℕ) (id late' : ℕ) (closed' : Bool) (v w : View T)
+        → IsHonest n r.freed closed' r.log r.cells r.seat (set s.views id w) → Quiet words' id late' closed' v w
         → Queue boxed Good record { words = words'; homes = s.homes; views = set s.views id w }
-    quiet words' id late' closed' v w q =
+    quiet words' id late' closed' v w honest q =
         let seats : length (set s.views id w) ≡ length s.views = length-set s.views id w in
         let sum = sums s.views id v w v.stage v.role w.role q.at refl refl refl in
         record {
           slots = grind arith;
-          few_seats = omega arith;
+          made = r.made;
+          seat = r.seat;
+          few_made = r.few_made;
+          seated = rw seats r.seated;
           within = omega arith;
           room_is = omega arith;
           counted = omega arith;
           budgeted = omega arith;
           gathered = collects_after closed' r.log id v w q.at q.role q.sees q.goes;
-          unmade = grind arith;
-          each_seat = rw seats (each_after s.views id w (λ j d. Fits (length s.views) r.freed r.log j d d.role) q.fit (λ j d _ e. r.each_seat j d e));
-          each_hand = each_after s.views id w (λ j d. Knows r.freed r.log j (r.cells (d.at % n)) d.at d.item d.stage) q.knew
+          unmade = r.unmade;
+          each_seat = each_after s.views id w (λ j d. Fits r.made r.seat r.freed r.log j d d.role) q.fit (λ j d _ e. r.each_seat j d e);
+          each_hand = each_after s.views id w (λ j d. Knows r.freed r.log j (r.cells (d.at % n)) d.at d.item d.port d.stage) q.knew
               (λ j d _ e. r.each_hand j d e);
+          honest = honest;
           busy = λ i j near held. let b = r.busy i j near held in grind (arith, set_else);
         }
 
@@ -172,9 +185,9 @@ module _ {T S : Type 0} {boxed : Option (ℕ × T) → S} {Good : T → Type 0} 
       pub within : length log' + total in_room s.views + found_of w.stage ≤ freed' + n + found_of v.stage
       pub counted : length log' + wait_of w.stage + v.asks ≤ length r.log + wait_of v.stage + w.asks
       pub budgeted : budget w ≤ budget v
-      pub sees : id ≡ 0 → Collects r.closed log' s.views w
-      pub goes : id ≢ 0 → (u : View T) → Collects r.closed r.log s.views u → Collects r.closed log' s.views u
-      pub unmade : (q : ℕ) → length s.views ≤ suc q → owned q 0 log' ≡ []
+      pub sees : id ≡ 0 → Collects r.closed log' r.seat s.views w
+      pub goes : id ≢ 0 → (u : View T) → Collects r.closed r.log r.seat s.views u → Collects r.closed log' r.seat s.views u
+      pub unmade : (q : ℕ) → r.made ≤ q → owned q 0 log' ≡ []
       pub behind : freed' ≤ length log'
       pub moves : Next n i r.freed freed'
       pub adds : Next n i (length r.log) (length log')
@@ -185,13 +198,13 @@ module _ {T S : Type 0} {boxed : Option (ℕ × T) → S} {Good : T → Type 0} 
       pub loose : (j : ℕ) → j ≢ id → holder (r.cells i).1 ≢ suc j
       pub mine : (j : ℕ) → holder c'.1 ≡ suc j → (j ≡ id) × Busy w.stage × (w.at ≡ c'.0)
       pub single : (q : ℕ) → q < n → q ≢ i → holder (r.cells q).1 ≢ suc id
-      pub fit : Fits (length s.views) freed' log' id w w.role
-      pub knew : Knows freed' log' id (put r.cells i c' (w.at % n)) w.at w.item w.stage
-      pub others : (j : ℕ) (d : View T) → j ≢ id → get_elem? s.views j ≡ some d → Fits (length s.views) freed' log' j d d.role
+      pub fit : Fits r.made r.seat freed' log' id w w.role
+      pub knew : Knows freed' log' id (put r.cells i c' (w.at % n)) w.at w.item w.port w.stage
+      pub others : (j : ℕ) (d : View T) → j ≢ id → get_elem? s.views j ≡ some d → Fits r.made r.seat freed' log' j d d.role
 
     pub moved : (k x i id freed' : ℕ) (log' : List (ℕ × T)) (c' : Cell) (home : maybe.Option S) (v w : View T)
-        → AreGood Good log' → Move k x i id freed' log' c' home v w → Queue boxed Good record { words = set s.words k x; homes = set s.homes i home; views = set s.views id w }
-    moved k x i id freed' log' c' home v w all_good m =
+        → AreGood Good log' → IsHonest n freed' r.closed log' (put r.cells i c') r.seat (set s.views id w) → Move k x i id freed' log' c' home v w → Queue boxed Good record { words = set s.words k x; homes = set s.homes i home; views = set s.views id w }
+    moved k x i id freed' log' c' home v w all_good honest m =
         let words' : List ℕ = set s.words k x in let cells' : ℕ → Cell = put r.cells i c' in let views' : List (View T) = set s.views id w in
         let homes' : Homes S = set s.homes i home in
         let seats : length views' ≡ length s.views = length-set s.views id w in let as_long : length homes' ≡ n = length-set s.homes i home in
@@ -214,20 +227,24 @@ module _ {T S : Type 0} {boxed : Option (ℕ × T) → S} {Good : T → Type 0} 
                 cell_stays boxed n i r.freed freed' r.log log' s.words words' s.homes homes' j (r.cells j) other m.moves m.adds m.more
                 (get_or-set_other s.words k (j + 2) x 0 (m.apart j other)) (set_else s.homes i j home other) (r.each_cell j l)));
           };
-          few_seats = omega arith;
+          made = r.made;
+          seat = r.seat;
+          few_made = r.few_made;
+          seated = rw seats r.seated;
           within = omega arith;
           room_is = omega arith;
           counted = omega arith;
           budgeted = omega arith;
           gathered = collects_after r.closed log' id v w m.at m.role m.sees m.goes;
-          unmade = grind arith;
-          each_seat = rw seats (each_after s.views id w (λ j d. Fits (length s.views) freed' log' j d d.role) m.fit m.others);
-          each_hand = rw as_long (each_after s.views id w (λ j d. Knows freed' log' j (cells' (d.at % n)) d.at d.item d.stage) m.knew (λ j d not e.
-              knows_stays r.freed freed' r.log log' j (r.cells (d.at % n)) (cells' (d.at % n)) d.at d.item m.more
+          unmade = m.unmade;
+          each_seat = each_after s.views id w (λ j d. Fits r.made r.seat freed' log' j d d.role) m.fit m.others;
+          each_hand = rw as_long (each_after s.views id w (λ j d. Knows freed' log' j (cells' (d.at % n)) d.at d.item d.port d.stage) m.knew (λ j d not e.
+              knows_stays r.freed freed' r.log log' j (r.cells (d.at % n)) (cells' (d.at % n)) d.at d.item d.port m.more
               (λ held. at_put r.cells i c' (λ q y. q ≡ d.at % n → Path Cell y (r.cells (d.at % n))) (d.at % n)
               (λ is. absurd (m.loose j not (grind arith))) (λ _ _. refl) refl)
               (grind arith)
               d.stage (r.each_hand j d e)));
+          honest = rw as_long honest;
           busy = rw as_long (λ q j l. at_put r.cells i c'
               (λ z y. z ≡ q → holder y.1 ≡ suc j → (u : View T) × (get_elem? views' j ≡ some u) × Busy u.stage × (u.at ≡ y.0)) q
               (λ _ held. let b = m.mine j held in grind (arith, set_here, placed))

@@ -1,5 +1,5 @@
 -- The messages of one port in a list, and their places.
-use Rattle.subvl_queue.proofs.Names.{◌≡◌, ◌≢◌, ℕ, zero, suc, ◌+◌, ◌-◌, ◌==◌, ◌<◌, ◌≤◌, if◌then◌else◌, List, [], ◌∷◌, ◌++◌, length, map, take, drop, get_or, Bool, true, eqb, cond, sym, refl, ap, ◌∙◌, subst, arith, ne_eqb, lt_of_not-le, some, some-injective, some-ne-none, get_elem?, eqb-true, All-cons, All-nil, AreGood, IsMessage, own_of, places_of, IsItem, AreItems, part_of, owned, StandAt, TellsLeft}
+use Rattle.subvl_queue.proofs.Names.{◌≡◌, ◌≢◌, ℕ, zero, suc, ◌+◌, ◌-◌, ◌==◌, ◌<◌, ◌≤◌, if◌then◌else◌, List, [], ◌∷◌, ◌++◌, length, map, take, drop, get_or, Bool, true, false, eqb, cond, eq-eqb, sym, refl, ap, ◌∙◌, subst, arith, ne_eqb, lt_of_not-le, some, some-injective, some-ne-none, get_elem?, eqb-true, All-cons, All-nil, AreGood, IsMessage, own_of, places_of, IsItem, AreItems, part_of, owned, StandAt, TellsLeft}
 
 cond_append : {A : Type 0} (b : Bool) (x : A) (l r : List A) → cond b (x ∷ (l ++ r)) (l ++ r) ≡ cond b (x ∷ l) l ++ r
 cond_append b x l r = grind arith
@@ -29,6 +29,65 @@ module _ {T : Type 0} where
   owned_at k n [] i x at is none' = some-ne-none x (sym at)
   owned_at k n (y ∷ l) zero x at is none' = grind arith
   owned_at k n (y ∷ l) (suc i) x at is none' = owned_at k (suc n) l i x at is (rest_none k n y l none').1
+
+  -- A message in the part of a port is in the list, at its place.
+  pub owned_get : (k n : ℕ) (l : List (ℕ × T)) (q p : ℕ) (m : T) → get_elem? (owned k n l) q ≡ some (p, m)
+      → (n ≤ p) × (get_elem? l (p - n) ≡ some (k, m))
+  owned_get k n [] q p m e = absurd (some-ne-none (p, m) (sym e))
+  owned_get k n (x ∷ l) q p m e = either (λ q e. owned_get k (suc n) l q p m e) (eqb x.0 k) (eqb-true x.0 k) e
+    where
+      later : ((q : ℕ) → get_elem? (owned k (suc n) l) q ≡ some (p, m) → (suc n ≤ p) × (get_elem? l (p - suc n) ≡ some (k, m))) → (q : ℕ) → get_elem? (owned k (suc n) l) q ≡ some (p, m) → (n ≤ p) × (get_elem? (x ∷ l) (p - n) ≡ some (k, m))
+      later more q e = let r = more q e in
+          let one : suc (p - suc n) ≡ p - n = let a = r.0 in omega arith in
+          (let a = r.0 in omega arith, subst (λ (z : ℕ). get_elem? (x ∷ l) z ≡ some (k, m)) one r.1)
+
+      here : ((q : ℕ) → get_elem? (owned k (suc n) l) q ≡ some (p, m) → (suc n ≤ p) × (get_elem? l (p - suc n) ≡ some (k, m)))
+          → (q : ℕ) → x.0 ≡ k → get_elem? ((n, x.1) ∷ owned k (suc n) l) q ≡ some (p, m) → (n ≤ p) × (get_elem? (x ∷ l) (p - n) ≡ some (k, m))
+      here more zero same e = let is = some-injective (n, x.1) (p, m) e in
+          let at : zero ≡ p - n = let a : n ≡ p = ap (λ (z : ℕ × T). z.0) is in omega arith in (
+            let a : n ≡ p = ap (λ (z : ℕ × T). z.0) is in omega arith,
+            subst (λ (z : ℕ). get_elem? (x ∷ l) z ≡ some (k, m)) at (λ i. some (same i, (is i).1)),
+          )
+      here more (suc q) same e = later more q e
+
+      either : ((q : ℕ) → get_elem? (owned k (suc n) l) q ≡ some (p, m) → (suc n ≤ p) × (get_elem? l (p - suc n) ≡ some (k, m)))
+          → (b : Bool) → (b ≡ true → x.0 ≡ k) → get_elem? (cond b ((n, x.1) ∷ owned k (suc n) l) (owned k (suc n) l)) q ≡ some (p, m)
+          → (n ≤ p) × (get_elem? (x ∷ l) (p - n) ≡ some (k, m))
+      either more true same e = here more q (same refl) e
+      either more false same e = later more q e
+
+module _ {T : Type 0} where
+  -- The index of a message in the part of its port is the number of the port's messages before it.
+  pub owned_number : (k n : ℕ) (l : List (ℕ × T)) (q p : ℕ) (m : T) → get_elem? (owned k n l) q ≡ some (p, m)
+      → length (owned k n (take (p - n) l)) ≡ q
+  owned_number k n [] q p m e = absurd (some-ne-none (p, m) (sym e))
+  owned_number k n (x ∷ l) q p m e = either (λ q e. owned_number k (suc n) l q p m e) (eqb x.0 k) refl q e
+    where
+      Later : ℕ → Type 0
+      Later q = (suc (p - suc n) ≡ p - n) × (length (owned k (suc n) (take (p - suc n) l)) ≡ q)
+
+      after : (q : ℕ) → get_elem? (owned k (suc n) l) q ≡ some (p, m) → length (owned k (suc n) (take (p - suc n) l)) ≡ q → Later q
+      after q e is = let a = (owned_get k (suc n) l q p m e).0 in (omega arith, is)
+
+      either : ((q : ℕ) → get_elem? (owned k (suc n) l) q ≡ some (p, m) → length (owned k (suc n) (take (p - suc n) l)) ≡ q)
+          → (b : Bool) → eqb x.0 k ≡ b → (q : ℕ) → get_elem? (cond b ((n, x.1) ∷ owned k (suc n) l) (owned k (suc n) l)) q ≡ some (p, m)
+          → length (owned k n (take (p - n) (x ∷ l))) ≡ q
+      either more true is zero e = let a : n ≡ p = ap (λ (z : ℕ × T). z.0) (some-injective (n, x.1) (p, m) e) in
+          let none' : 0 ≡ p - n = omega arith in subst (λ (z : ℕ). length (owned k n (take z (x ∷ l))) ≡ 0) none' refl
+      either more true is (suc q) e = let r = after q e (more q e) in
+          subst (λ (z : ℕ). length (owned k n (take z (x ∷ l))) ≡ suc q) r.0
+          (subst (λ (b : Bool). length (cond b ((n, x.1) ∷ owned k (suc n) (take (p - suc n) l)) (owned k (suc n) (take (p - suc n) l))) ≡ suc q) (sym is) (ap suc r.1))
+      either more false is q e = let r = after q e (more q e) in
+          subst (λ (z : ℕ). length (owned k n (take z (x ∷ l))) ≡ q) r.0
+          (subst (λ (b : Bool). length (cond b ((n, x.1) ∷ owned k (suc n) (take (p - suc n) l)) (owned k (suc n) (take (p - suc n) l))) ≡ q) (sym is) r.1)
+
+  -- If all messages are one port's, its part is as long as the list.
+  pub owned_all : (k n i : ℕ) (l : List (ℕ × T)) → ((j : ℕ) (x : ℕ × T) → get_elem? l j ≡ some x → x.0 ≡ k) → i ≤ length l → length (owned k n (take i l)) ≡ i
+  owned_all k n zero l all le = refl
+  owned_all k n (suc i) [] all le = absurd (omega arith)
+  owned_all k n (suc i) (x ∷ l) all le = let r = owned_all k (suc n) i l (λ j y e. all (suc j) y e) (omega arith) in
+      let mine : eqb x.0 k ≡ true = eq-eqb x.0 k (all 0 x refl) in
+      subst (λ (b : Bool). length (cond b ((n, x.1) ∷ owned k (suc n) (take i l)) (owned k (suc n) (take i l))) ≡ suc i) (sym mine) (ap suc r)
 
 pub take_next : {A : Type 0} (l : List A) (i : ℕ) (a : A) → get_elem? l i ≡ some a → take i l ++ a ∷ [] ≡ take (suc i) l
 take_next [] i a e = absurd (some-ne-none a (sym e))

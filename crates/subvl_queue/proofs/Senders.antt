@@ -1,5 +1,5 @@
 -- The senders in a list, and what the receiver has of them.
-use Rattle.subvl_queue.proofs.Names.{◌≡◌, ℕ, zero, suc, ◌+◌, ◌<◌, ◌≤◌, List, [], ◌∷◌, ◌++◌, length, take, drop, get_or, sym, refl, ap, ◌∙◌, arith, length-append, take-append-drop, Contains-append_right, map, Contains, Some, None, false, Option, IfSome, IfNone, IsNext, with_look, drop_at, some, get_elem?, IsMessage, View, own_of, places_of, IsGathered, whole, brought_of, brought_back, owned, IsLog, with_all, holding, freed_of, SenderView, Brought, HasPort, HasEvery, IsBack, AreBack, IsWhole, brought_by, brought_by_all}
+use Rattle.subvl_queue.proofs.Names.{◌≡◌, ℕ, zero, suc, ◌+◌, ◌<◌, ◌≤◌, List, [], ◌∷◌, ◌++◌, length, take, drop, get_or, sym, refl, ap, ◌∙◌, arith, length-append, take-append-drop, Contains-append_right, map, Contains, Some, None, false, Option, IfSome, IfNone, IsNext, Lists, AreInRow, HasAt, HaveRows, IsPlaced, IsLast, heard_from, ReceiverView, get_or_push, subst, with_look, drop_at, some, get_elem?, IsMessage, View, own_of, places_of, IsGathered, whole, brought_of, brought_back, owned, IsLog, with_all, holding, freed_of, SenderView, Brought, HasPort, HasEvery, IsBack, AreBack, IsWhole, brought_by, brought_by_all}
 use Rattle.subvl_queue.proofs.Parts.{part_is, places_are, take_next, stand_at}
 
 -- If none was found, no sender of the port is in the list.
@@ -77,7 +77,7 @@ pub next_listed : (taken : ℕ) (v : View (List ℕ)) (x : ℕ × List ℕ) → 
 next_listed taken v x e = grind arith
 
 -- After the next message was taken, the list is still gathered.
-pub goes_on : (taken next total : ℕ) (v w : View (List ℕ)) (x : ℕ × List ℕ) → IsGathered taken total v → w ≡ freed_of (holding v taken x) x
+pub goes_on : (taken next total : ℕ) (v w : View (List ℕ)) (x : ℕ × List ℕ) → IsGathered taken total v → w ≡ freed_of (holding v taken x) x w.asks_then
     → (taken < length (whole v)) × (get_elem? (whole v) taken ≡ some x) → next ≡ taken + 1 → IsGathered next total w
 goes_on taken next total v w x old is at more =
     let suc_is : suc taken ≡ next = omega arith in
@@ -85,15 +85,98 @@ goes_on taken next total v w x old is at more =
 
 -- After a poll the list is still gathered.
 pub goes_on_by : (taken next total : ℕ) (v w : View (List ℕ)) (found : Option (ℕ × List ℕ)) → IsGathered taken total v
-    → IfSome found (λ x. w ≡ freed_of (holding v taken x) x) → IfSome found (λ x. IsNext v taken x) → IfSome found (λ _. next ≡ taken + 1)
+    → IfSome found (λ x. w ≡ freed_of (holding v taken x) x w.asks_then) → IfSome found (λ x. IsNext v taken x) → IfSome found (λ _. next ≡ taken + 1)
     → IfNone found (w ≡ with_look v false) → IfNone found (next ≡ taken) → IsGathered next total w
 goes_on_by taken next total v w None old at listed more none same = grind arith
 goes_on_by taken next total v w (Some x) old at listed more none same =
     goes_on taken next total v w x old at (next_listed taken v x old.all listed.listed) more
 
 -- The taken message was the first of those left.
-pub leaves : (taken next : ℕ) (v w : View (List ℕ)) (x : ℕ × List ℕ) → w ≡ freed_of (holding v taken x) x → get_elem? (whole v) taken ≡ some x
+pub leaves : (taken next : ℕ) (v w : View (List ℕ)) (x : ℕ × List ℕ) → w ≡ freed_of (holding v taken x) x w.asks_then → get_elem? (whole v) taken ≡ some x
     → next ≡ taken + 1 → drop taken (whole v) ≡ x ∷ drop next (whole w)
 leaves taken next v w x is at more =
     let suc_is : suc taken ≡ next = omega arith in
     grind (arith, drop_at)
+
+-- A message in a sender's list, with its place.
+at_own : (l : List (ℕ × List ℕ)) (i : ℕ) → i < length (own_of l) → get_elem? l i ≡ some (get_or (places_of l) i 0, get_or (own_of l) i [])
+at_own [] i lt = absurd (omega arith)
+at_own (x ∷ l) zero lt = refl
+at_own (x ∷ l) (suc i) lt = at_own l i (omega arith)
+
+-- A message of these senders is in one of their lists.
+pub is_listed : (told : List (ℕ × List (ℕ × List ℕ))) (p : ℕ) (item : ℕ × List ℕ) → HasAt (map brought_of told) p item → Lists told p item
+is_listed told p item has =
+    let at = has.2 in
+    let f = found told has.0 has.1.0 has.1.1 has.1.2 in
+    let lt : at.0 < length (own_of f.2) = subst (λ (z : Brought). at.0 < length z.own) (sym f.4) at.1 in
+    let here = at_own f.2 at.0 lt in
+    let place : get_or (places_of f.2) at.0 0 ≡ p = subst (λ (z : Brought). get_or z.places at.0 0 ≡ p) (sym f.4) at.2 in
+    let same : item ≡ (f.1, get_or (own_of f.2) at.0 []) = subst (λ (z : Brought). item ≡ (z.port, get_or z.own at.0 [])) (sym f.4) at.3 in
+    (f.0, at.0, f.2, grind arith, grind arith)
+
+-- A poll finds a message that is listed as the next.
+pub finds_listed : (v : View (List ℕ)) (told : List (ℕ × List (ℕ × List ℕ))) (p : ℕ) (item : ℕ × List ℕ) (hit : Option (ℕ × List ℕ))
+    → ((x y : ℕ × List ℕ) → IsNext v p x → Lists told p y → x ≡ y) → HasAt (map brought_of told) p item
+    → IfSome hit (IsNext v p) → IfNone hit ((y : ℕ × List ℕ) → Lists told p y → ⊥) → hit ≡ Some item
+finds_listed v told p item None is has next none = absurd (none item (is_listed told p item has))
+finds_listed v told p item (Some x) is has next none = ap Some (is x item next (is_listed told p item has))
+
+-- In lists in a row each message has its index as its place.
+pub have_rows : (told : List (ℕ × List (ℕ × List ℕ))) → AreInRow told → HaveRows (map brought_of told)
+have_rows told row b inside i lt =
+    let f = found told b inside.0 inside.1 inside.2 in
+    let lt' : i < length (own_of f.2) = subst (λ (z : Brought). i < length z.own) (sym f.4) lt in
+    let here = row f.0 i f.1 (get_or (places_of f.2) i 0) f.2 (get_or (own_of f.2) i []) f.3 (at_own f.2 i lt') in
+    subst (λ (z : Brought). get_or z.places i 0 ≡ i) f.4 here
+
+pub counts_are : (l : List (ℕ × List ℕ)) → length (places_of l) ≡ length (own_of l)
+counts_are [] = refl
+counts_are (x ∷ l) = let r = counts_are l in omega arith
+
+last_same : (a b : ℕ) (xs ys : List ℕ) → xs ++ a ∷ [] ≡ ys ++ b ∷ [] → a ≡ b
+last_same a b [] [] e = grind arith
+last_same a b [] (y ∷ ys) e = let l = ap length e in let n = length-append ys (b ∷ []) in absurd (omega arith)
+last_same a b (x ∷ xs) [] e = let l = ap length e in let n = length-append xs (a ∷ []) in absurd (omega arith)
+last_same a b (x ∷ xs) (y ∷ ys) e = last_same a b xs ys (ap tail_of e)
+  where
+    tail_of : List ℕ → List ℕ
+    tail_of [] = []
+    tail_of (z ∷ zs) = zs
+
+-- A sender after a send, whose message has the last place.
+pub record HasSent (s t : SenderView) (bytes : List ℕ) : Type 0 where
+  pub place : ℕ
+  pub places : t.places ≡ s.places ++ place ∷ []
+  pub within : length s.own < length t.own
+  pub at : get_or t.places (length s.own) 0 ≡ place
+  pub last : get_or t.own (length s.own) [] ≡ bytes
+
+pub has_sent : (s t : SenderView) (bytes : List ℕ) → IsPlaced s bytes t → length t.places ≡ length t.own → HasSent s t bytes
+has_sent s t bytes placed counts =
+    let place : ℕ = placed.2.0 in
+    let places : t.places ≡ s.places ++ place ∷ [] = ap (λ (v : SenderView). v.places) placed.2.1 in
+    let own : t.own ≡ s.own ++ bytes ∷ [] = ap (λ (v : SenderView). v.own) placed.2.1 in
+    let n = length-append s.places (place ∷ []) in
+    let m = length-append s.own (bytes ∷ []) in
+    let a = ap length places in
+    let b = ap length own in
+    let same : length s.places ≡ length s.own = omega arith in record {
+      place = place;
+      places = places;
+      within = omega arith;
+      at = ap (λ (l : List ℕ). get_or l (length s.own) 0) places ∙ get_or_push s.places place 0 (length s.own) same;
+      last = ap (λ (l : List (List ℕ)). get_or l (length s.own) []) own ∙ get_or_push s.own bytes [] (length s.own) refl;
+    }
+
+-- What a receiver hears of last is among what it heard of.
+pub hears_last : (r : ReceiverView) (t : SenderView) → Contains (heard_from r t).heard (brought_by t)
+hears_last r t = Contains-append_right r.heard (brought_by t ∷ []) (brought_by t) (0, omega arith, refl)
+
+-- The message of a send is among what the receiver heard of afterwards.
+pub hears_sent : (r : ReceiverView) (s t : SenderView) (bytes : List ℕ) (h : HasSent s t bytes) → HasAt (heard_from r t).heard h.place (t.port, bytes)
+hears_sent r s t bytes h = (brought_by t, hears_last r t, (length s.own, h.within, h.at, λ k. (t.port, sym h.last k)))
+
+-- The last place is the one after all others.
+pub last_is : (s t : SenderView) (place p : ℕ) → t.places ≡ s.places ++ place ∷ [] → IsLast t.places p → place ≡ p
+last_is s t place p places last = last_same place p s.places last.0 (sym places ∙ last.1)

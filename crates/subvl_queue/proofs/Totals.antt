@@ -1,5 +1,5 @@
 -- Sums over the views, and arithmetic of the words.
-use Rattle.subvl_queue.proofs.Names.{◌≡◌, ℕ, zero, suc, ◌+◌, ◌-◌, ◌^◌, ◌%◌, ◌<◌, ◌≤◌, List, [], ◌∷◌, ◌++◌, length, set, sym, refl, arith, mod-eq_of_lt, some, some-ne-none, get_elem?, View, Stage, Idle, Role, Spent, total, hand_of, found_of, wait_of, budget_of, in_hand, in_room, waiting, asks_of, budget}
+use Rattle.subvl_queue.proofs.Names.{◌*◌, ◌≡◌, ℕ, zero, suc, ◌+◌, ◌-◌, ◌^◌, ◌%◌, ◌<◌, ◌≤◌, List, [], ◌∷◌, ◌++◌, set, sym, refl, arith, mod-eq_of_lt, some, some-ne-none, get_elem?, View, Stage, Idle, Role, Sender, Receiver, Spent, total, hand_of, found_of, wait_of, budget_of, in_hand, in_room, waiting, asks_of, budget}
 
 -- The total after one member changed.
 pub total_set : {A : Type 0} (f : A → ℕ) (l : List A) (j : ℕ) (v w : A) → get_elem? l j ≡ some v → total f (set l j w) + f v ≡ total f l + f w
@@ -14,10 +14,17 @@ total_end f (x ∷ xs) w = let r = total_end f xs w in omega arith
 stage_small : (st : Stage) → (hand_of st ≤ 1) × (found_of st ≤ hand_of st)
 stage_small st = grind arith
 
+pub hand_budget : (asks made : ℕ) (st : Stage) (ro : Role) → (ro ≡ Receiver → hand_of st ≡ 0) → (ro ≡ Spent → hand_of st ≡ 0)
+    → 2 ^ 40 * hand_of st ≤ budget_of asks made ro
+hand_budget asks made st Sender a b = let h = stage_small st in omega arith
+hand_budget asks made st Receiver a b = let h = a refl in omega arith
+hand_budget asks made st Spent a b = let h = b refl in omega arith
+
 module _ {T : Type 0} where
-  pub hands_small : (l : List (View T)) → total in_hand l ≤ length l
-  hands_small [] = omega arith
-  hands_small (v ∷ vs) = let r = hands_small vs in let h = stage_small v.stage in omega arith
+  -- Each seat with a slot request under way has a budget of its own.
+  pub hands_times : (l : List (View T)) → total (λ v. 2 ^ 40 * in_hand v) l ≡ 2 ^ 40 * total in_hand l
+  hands_times [] = omega arith
+  hands_times (v ∷ vs) = let r = hands_times vs in omega arith
 
   -- The sums over the views before and after one view changes in its stage, slot requests, made
   -- senders and role.

@@ -2,7 +2,7 @@
 -- Word 0 is ROOM: 2 ^ 32 and the capacity, less the held messages and the slot requests under way.
 -- Word 1 is TAIL: the number of accepted messages and of late places. Its bit 63 says that the queue
 -- is closed. Word i + 2 is 0, or one more than the last place made ready in slot i.
-use Rattle.std.specs.Prelude.{◌≡◌, ℕ, suc, ◌+◌, ◌-◌, ◌*◌, ◌%◌, ◌^◌, ◌<◌, ◌≤◌, eqb, cond, Bool, true, false, List, [], ◌∷◌, length, take, slice_index_or, Option, Some, None}
+use Rattle.std.specs.Prelude.{◌≡◌, ℕ, suc, ◌+◌, ◌-◌, ◌*◌, ◌%◌, ◌^◌, ◌<◌, ◌≤◌, ◌⊎◌, eqb, cond, Bool, true, false, List, [], ◌∷◌, length, take, slice_index_or, Option, Some, None}
 use mathlib.Core.Option.{some}
 use mathlib.Core.Option as maybe
 use lib.ListN.{get_elem?}
@@ -54,6 +54,11 @@ abbrev pub shut_bit : Bool → ℕ
 shut_bit true = 2 ^ 63
 shut_bit false = 0
 
+-- 1 for a seat at rest, which may have given back its last slot request
+abbrev pub rest_of : Stage → ℕ
+rest_of Idle = 1
+rest_of stage = 0
+
 abbrev pub Busy : Stage → Type 0
 Busy Drew = Unit {0}
 Busy Holding = Unit {0}
@@ -76,6 +81,10 @@ holder free = 0
 holder (writing j) = suc j
 holder full = 0
 holder (reading j) = suc j
+
+-- the place is ready, or the receiver reads it
+abbrev pub IsOut : Cell → ℕ → Type 0
+IsOut c p = (c ≡ (p, full)) ⊎ (c ≡ (p, reading 0))
 
 abbrev pub shown : ℕ → ℕ → Phase → ℕ
 shown n p free = suc p - n
@@ -101,6 +110,10 @@ module _ {T : Type 0} where
   abbrev pub asks_of : View T → ℕ
   asks_of v = v.asks
 
+  -- how often a seat gave a place or a slot request back while seat j had made `asks` slot requests
+  abbrev pub gave_back : (j asks : ℕ) → View T → ℕ
+  gave_back j asks v = total (λ e. cond (eqb (slice_index_or e j 0) asks) 1 0) v.asks_then
+
   abbrev pub budget : View T → ℕ
   budget v = budget_of v.asks v.made v.role
 
@@ -108,34 +121,83 @@ module _ {T : Type 0} where
   abbrev pub Has : List (ℕ × T) → Cell → Phase → ℕ → Option (ℕ × T) → Type 0
   Has log c phase at item = (c ≡ (at, phase)) × ((x : ℕ × T) × (item ≡ Some x) × (get_elem? log at ≡ some x))
 
-  module _ (freed : ℕ) (log : List (ℕ × T)) (j : ℕ) (c : Cell) (at : ℕ) (item : Option (ℕ × T)) where
+  module _ (freed : ℕ) (log : List (ℕ × T)) (j : ℕ) (c : Cell) (at : ℕ) (item : Option (ℕ × T)) (port : ℕ) where
     abbrev pub Knows : Stage → Type 0
-    Knows Drew = Has log c (writing j) at item
+    Knows Drew = Has log c (writing j) at item × ((x : ℕ × T) → item ≡ Some x → x.0 ≡ port) × (0 < j)
     Knows Holding = Has log c (reading j) at item × (at ≡ freed)
     Knows stage = Unit {0}
 
-  -- seat 0 is the receiver's, seat k + 1 port k's
-  module _ (seats freed : ℕ) (log : List (ℕ × T)) (j : ℕ) (v : View T) where
+  -- seat 0 is the receiver's, and `seat k` port k's
+  module _ (made : ℕ) (seat : ℕ → ℕ) (freed : ℕ) (log : List (ℕ × T)) (j : ℕ) (v : View T) where
     abbrev pub Fits : Role → Type 0
-    Fits Sender = (j ≡ suc v.port) × (v.own ≡ owned v.port 0 log) × (v.asks ≤ 2 ^ 40)
-    Fits Receiver = (j ≡ 0) × (v.taken ≡ take freed log) × (length v.taken ≡ freed) × (seats ≡ suc v.made)
+    Fits Sender = (j ≡ seat v.port) × (v.own ≡ owned v.port 0 log) × (v.asks ≤ 2 ^ 40) × (0 < j) × (v.port < made)
+    Fits Receiver = (j ≡ 0) × (v.taken ≡ take freed log) × (length v.taken ≡ freed) × (v.made ≡ made)
+        × (hand_of v.stage ≡ 0)
     Fits Spent = (v.asks ≡ 0) × (v.stage ≡ Idle)
 
   abbrev pub Gone : List (View T) → ℕ → Type 0
   Gone views j = (d : View T) → get_elem? views j ≡ some d → d.role ≡ Spent
 
   -- each joined list is its port's part of the log, and the sender is gone
-  abbrev pub Joined : List (ℕ × T) → List (View T) → List (ℕ × List (ℕ × T)) → Type 0
-  Joined log views joined = (i k : ℕ) (l : List (ℕ × T)) → get_elem? joined i ≡ some (k, l)
-      → (l ≡ owned k 0 log) × Gone views (suc k)
+  abbrev pub Joined : List (ℕ × T) → (ℕ → ℕ) → List (View T) → List (ℕ × List (ℕ × T)) → Type 0
+  Joined log seat views joined = (i k : ℕ) (l : List (ℕ × T)) → get_elem? joined i ≡ some (k, l)
+      → (l ≡ owned k 0 log) × Gone views (seat k)
 
   -- the receiver has the log itself only if all senders are gone
   abbrev pub Whole : List (ℕ × T) → List (View T) → Option (List (ℕ × T)) → Type 0
   Whole log views None = Unit {0}
   Whole log views (Some l) = (l ≡ log) × ((j : ℕ) → Gone views (suc j))
 
-  abbrev pub Collects : Bool → List (ℕ × T) → List (View T) → View T → Type 0
-  Collects closed log views u = Totals closed (length log) u.total × Joined log views u.joined × Whole log views u.all
+  abbrev pub Collects : Bool → List (ℕ × T) → (ℕ → ℕ) → List (View T) → View T → Type 0
+  Collects closed log seat views u = Totals closed (length log) u.total × Joined log seat views u.joined
+      × Whole log views u.all
+
+  -- a seat that found the queue closed was right
+  abbrev pub AreShut : Bool → List (View T) → Type 0
+  AreShut closed views = (j : ℕ) (v : View T) → get_elem? views j ≡ some v → v.shut ≡ true → closed ≡ true
+
+  -- a sender that found the queue open did so before the close
+  abbrev pub SawOpen : Bool → List (View T) → Type 0
+  SawOpen closed views = closed ≡ true → (u : View T) (j : ℕ) (v : View T) → get_elem? views 0 ≡ some u
+      → get_elem? views j ≡ some v → v.role ≡ Sender → v.shut ≡ false → v.glances ≤ slice_index_or u.glances_then j 0
+
+  -- no place was made ready after a look that is still to come
+  abbrev pub MadeReady : List (View T) → Type 0
+  MadeReady views = (u : View T) (j : ℕ) (v : View T) → get_elem? views 0 ≡ some u → get_elem? views j ≡ some v
+      → v.looks_then ≤ u.looks
+
+  -- if the last look found nothing, and the next place is ready, its sender made it ready after that look
+  abbrev pub MissesNone : (slots freed : ℕ) → List (ℕ × T) → (ℕ → Cell) → (ℕ → ℕ) → List (View T) → Type 0
+  MissesNone slots freed log cells seat views = (u d : View T) (x : ℕ × T) → get_elem? views 0 ≡ some u
+      → get_elem? views (seat x.0) ≡ some d → u.found ≡ false → cells (freed % slots) ≡ (freed, full)
+      → get_elem? log freed ≡ some x → d.looks_then ≡ u.looks
+
+  -- message m of port k is accepted at place p, as number q of the port's, and is ready or taken
+  pub record IsHeard (slots freed : ℕ) (log : List (ℕ × T)) (cells : ℕ → Cell) (k q p : ℕ) (m : T) : Type 0 where
+    pub logged : get_elem? log p ≡ some (k, m)
+    pub number : length (owned k 0 (take p log)) ≡ q
+    pub out : freed ≤ p → IsOut (cells (p % slots)) p
+
+  -- each message of these ports' lists is so
+  abbrev pub AreHeard : (slots freed : ℕ) → List (ℕ × T) → (ℕ → Cell) → List (ℕ × List (ℕ × T)) → Type 0
+  AreHeard slots freed log cells heard = (i q k p : ℕ) (own : List (ℕ × T)) (m : T) → get_elem? heard i ≡ some (k, own)
+      → get_elem? own q ≡ some (p, m) → IsHeard slots freed log cells k q p m
+
+  -- the load that a sender's last slot request found is at most the load now, and what was given back since then
+  abbrev pub FoundLoads : (freed : ℕ) → List (ℕ × T) → List (View T) → Type 0
+  FoundLoads freed log views = (j : ℕ) (v : View T) → get_elem? views j ≡ some v → v.role ≡ Sender → 0 < v.asks
+      → v.load + 1 + freed + gave_back j v.asks v
+      ≤ length log + total in_hand views + rest_of v.stage + total (gave_back j v.asks) views
+
+  -- what the seats' last steps found is true
+  pub record IsHonest (slots freed : ℕ) (closed : Bool) (log : List (ℕ × T)) (cells : ℕ → Cell)
+      (seat : ℕ → ℕ) (views : List (View T)) : Type 0 where
+    pub shut : AreShut closed views
+    pub saw_open : SawOpen closed views
+    pub ready : MadeReady views
+    pub misses : MissesNone slots freed log cells seat views
+    pub loads : FoundLoads freed log views
+    pub heard : (j : ℕ) (v : View T) → get_elem? views j ≡ some v → AreHeard slots freed log cells v.heard
 
 -- each message of the list is good
 abbrev pub AreGood : {T : Type 0} → (T → Type 0) → List (ℕ × T) → Type 0
@@ -180,19 +242,24 @@ module _ {T S : Type 0} (boxed : Option (ℕ × T) → S) (Good : T → Type 0) 
   pub record Queue (s : State S (View T)) : Type 0 where
     pub slots : Slots s.words s.homes
     pub open slots use *
-    pub few_seats : length s.views ≤ 65
+    -- the number of senders that were made, and their seats
+    pub made : ℕ
+    pub seat : ℕ → ℕ
+    pub few_made : made ≤ 64
+    pub seated : (k : ℕ) → k < made → (0 < seat k) × (seat k < length s.views)
     -- the held messages and the slot requests that found room are within the capacity
     pub within : length log + total in_room s.views ≤ freed + length s.homes
     pub room_is : slice_index_or s.words 0 0 + length log + total in_hand s.views ≡ 2 ^ 32 + length s.homes + freed
     pub counted : length log + late + total waiting s.views ≤ total asks_of s.views
     pub budgeted : total budget s.views ≤ 64 * 2 ^ 40
     pub each_seat : (j : ℕ) (v : View T) → get_elem? s.views j ≡ some v →
-        Fits (length s.views) freed log j v v.role
+        Fits made seat freed log j v v.role
     pub each_hand : (j : ℕ) (v : View T) → get_elem? s.views j ≡ some v →
-        Knows freed log j (cells (v.at % length s.homes)) v.at v.item v.stage
+        Knows freed log j (cells (v.at % length s.homes)) v.at v.item v.port v.stage
     -- a port without a sender has no message
-    pub unmade : (k : ℕ) → length s.views ≤ suc k → owned k 0 log ≡ []
-    pub gathered : (u : View T) → get_elem? s.views 0 ≡ some u → Collects closed log s.views u
+    pub unmade : (k : ℕ) → made ≤ k → owned k 0 log ≡ []
+    pub gathered : (u : View T) → get_elem? s.views 0 ≡ some u → Collects closed log seat s.views u
+    pub honest : IsHonest (length s.homes) freed closed log cells seat s.views
     pub busy : (i j : ℕ) → i < length s.homes → holder (cells i).1 ≡ suc j →
         (v : View T) × (get_elem? s.views j ≡ some v) × Busy v.stage × (v.at ≡ (cells i).0)
 

@@ -28,8 +28,7 @@ pub record SenderView : Type 0 where
   pub own : List (List ℕ)
   pub places : List ℕ
 
--- the messages that a sender brings back: its index, its own accepted messages, and their places among all accepted
--- messages
+-- the accepted messages of a sender: its index, its messages, and their places among all accepted messages
 pub record Brought : Type 0 where
   pub port : ℕ
   pub own : List (List ℕ)
@@ -38,7 +37,7 @@ pub record Brought : Type 0 where
 -- A receiver. `most` is the greatest length of a message, and `ports` the number of its queue's senders. `looks` is the
 -- number of its polls of the queue, and `found` is true if the last poll found a message. `taken` has the messages
 -- taken, in order, `total` the number of accepted messages once the queue is closed, and `back` the messages of the
--- senders that were taken back.
+-- senders that were taken back. `heard` has the messages of senders as they were when the receiver heard of them.
 pub record ReceiverView : Type 0 where
   pub queue : QueueName
   pub capacity : ℕ
@@ -49,6 +48,7 @@ pub record ReceiverView : Type 0 where
   pub taken : List (ℕ × List ℕ)
   pub total : Option ℕ
   pub back : List Brought
+  pub heard : List Brought
 
 -- all ends together: the greatest length of a message, the number of senders, the messages taken, and the messages
 -- accepted and not taken yet
@@ -86,6 +86,7 @@ new_receiver queue capacity most ports = record {
   taken = [];
   total = None;
   back = [];
+  heard = [];
 }
 
 -- a sender after a check whether the queue is closed
@@ -152,6 +153,14 @@ one_more r = record r { ports = r.ports + 1 }
 abbrev pub taken_back : ReceiverView → SenderView → ReceiverView
 taken_back r s = record r { back = r.back ++ brought_by s ∷ [] }
 
+-- a receiver after it heard of a sender's messages
+abbrev pub heard_from : ReceiverView → SenderView → ReceiverView
+heard_from r s = record r { heard = r.heard ++ brought_by s ∷ [] }
+
+-- the last of these places
+abbrev pub IsLast : List ℕ → ℕ → Type 0
+IsLast places place = (rest : List ℕ) × (places ≡ rest ++ place ∷ [])
+
 -- the list has a sender of this port
 abbrev pub HasPort : List SenderView → ℕ → Type 0
 HasPort senders p = (k : ℕ) × (k < length senders) × ((d : SenderView) → (slice_index_or senders k d).port ≡ p)
@@ -178,6 +187,15 @@ pub record StandAt (list : List (ℕ × List ℕ)) (port : ℕ) (own : List (Lis
 -- the sender of this port is back
 abbrev pub IsBack : List Brought → ℕ → Type 0
 IsBack back p = (b : Brought) × Contains back b × (b.port ≡ p)
+
+-- by the messages of these senders, this one has this place among all accepted messages
+abbrev pub HasAt : List Brought → ℕ → ℕ × List ℕ → Type 0
+HasAt senders place item = (b : Brought) × Contains senders b × ((i : ℕ) × (i < length b.own)
+    × (get_or b.places i 0 ≡ place) × (item ≡ (b.port, get_or b.own i [])))
+
+-- each message of these senders has its index as its place
+abbrev pub HaveRows : List Brought → Type 0
+HaveRows senders = (b : Brought) → Contains senders b → (i : ℕ) → i < length b.own → get_or b.places i 0 ≡ i
 
 -- each sender of the queue is back
 abbrev pub AreBack : ℕ → List Brought → Type 0

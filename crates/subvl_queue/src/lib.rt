@@ -2,6 +2,7 @@
 //! and no call waits.
 #![tactic(auto)]
 
+pub mod laws;
 mod making;
 mod receiver;
 mod ring;

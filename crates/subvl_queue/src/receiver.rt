@@ -1,10 +1,10 @@
 //! The receiving end of a queue, alone and with all ends together.
-ghost use Rattle.std.specs.Prelude.{◌≡◌, ◌+◌, ◌^◌, ◌<◌, ◌≤◌, [], length, IfOk, IfErr, IfSome, IfNone, None, false, is_some, ◌∷◌, ◌++◌, take, drop, MatchBool};
+ghost use Rattle.std.specs.Prelude.{◌≡◌, ◌+◌, ◌^◌, ◌<◌, ◌≤◌, [], length, IfOk, IfErr, IfSome, IfNone, None, Some, false, is_some, ◌∷◌, ◌++◌, take, drop, map, MatchBool};
 ghost use Rattle.subvl_queue.specs.declared.rule.Role.TheVariants.{Receiver as AsReceiver};
 ghost use Rattle.subvl_queue.specs.Messages.{IsMessage, AreItems, room_with};
 ghost use Rattle.subvl_queue.specs.Queue.{IsAtTable, RestsAs, IsSlotOf};
-ghost use Rattle.subvl_queue.specs.Steps.{IsNext, with_look, freed_of, holding};
-ghost use Rattle.subvl_queue.specs.Views.{new_receiver, new_sender, one_more, after_take, looked, closed, taken_back, accepted_of, brought_by_all, AreBack, LacksOne, AreOf, IsWhole, brought_back, ReceiverView, IsGathered, whole, TellsLeft, HasPort, HasEvery, GatheredView};
+ghost use Rattle.subvl_queue.specs.Steps.{IsNext, Lists, AreInRow, with_look, freed_of, holding};
+ghost use Rattle.subvl_queue.specs.Views.{new_receiver, new_sender, one_more, after_take, looked, closed, taken_back, accepted_of, brought_by_all, AreBack, HasAt, HaveRows, heard_from, LacksOne, AreOf, IsWhole, brought_back, brought_of, ReceiverView, IsGathered, whole, TellsLeft, HasPort, HasEvery, GatheredView};
 
 use crate::ring::{Knowing, Ring};
 use crate::room::Room;
@@ -29,10 +29,14 @@ fn fetch(
     ensures seat { IsAtTable ring.now.table.shared.table_id seat.new × (seat.new.me.1 ≡ []) }
     ensures told { result ≡ is_some room.new.item }
     ensures most { room.new.most ≡ ring.now.most }
-    ensures some { IfSome room.new.item (λ x. seat.new.me.0 ≡ freed_of (holding seat.old.me.0 taken.old x) x) }
+    ensures some { IfSome room.new.item (λ x.
+        seat.new.me.0 ≡ freed_of (holding seat.old.me.0 taken.old x) x seat.new.me.0.asks_then) }
     ensures next { IfSome room.new.item (λ x. IsNext seat.old.me.0 taken.old x) }
     ensures message { IfSome room.new.item (λ x. IsMessage x.1) }
     ensures counted { IfSome room.new.item (λ _. taken.new ≡ taken.old + 1) }
+    ensures back { IfNone room.new.item ((y : _) → Lists seat.old.me.0.joined taken.old y → ⊥) }
+    ensures heard { IfNone room.new.item ((y : _) → Lists seat.old.me.0.heard taken.old y → ⊥) }
+    ensures row { seat.old.me.0.made ≡ 1 → AreInRow seat.old.me.0.heard }
     ensures none { IfNone room.new.item (seat.new.me.0 ≡ with_look seat.old.me.0 false) }
     ensures unchanged { IfNone room.new.item (taken.new ≡ taken.old) }
     ensures ended { IfNone room.new.item (IfSome seat.old.me.0.all (λ l. length l ≤ taken.old)) }
@@ -84,6 +88,7 @@ impl Model for Receiver {
       taken = r.seat.me.0.taken;
       total = r.total;
       back = brought_back r.seat.me.0;
+      heard = map brought_of r.seat.me.0.heard;
     } };
 
     ghost invariant = { λ r. RestsAs r.ring.value.table.shared.table_id AsReceiver r.seat
@@ -135,6 +140,9 @@ impl Receiver {
         ensures some { IfSome room.new.item (λ item. self.new ≡ after_take self.old item) }
         ensures port { IfSome room.new.item (λ item. item.0 < self.old.ports) }
         ensures message { IfSome room.new.item (λ item. IsMessage item.1) }
+        ensures heard { (item : _) → HasAt self.old.heard (length self.old.taken) item → room.new.item ≡ Some item }
+        ensures back { (item : _) → HasAt self.old.back (length self.old.taken) item → room.new.item ≡ Some item }
+        ensures alone { self.old.ports ≡ 1 → HaveRows self.old.heard }
         ensures few { length self.new.taken ≤ 2 ^ 46 }
         ensures within { IfSome self.old.total (λ t. length self.new.taken ≤ t) }
     {
@@ -163,12 +171,24 @@ impl Receiver {
         total
     }
 
+    /// Tells the receiver of the messages that a sender has sent. `take` then finds each of them once it is the next, and
+    /// not only one that happens to be ready. No message needs this call: it is for whoever has both ends at hand, and
+    /// states in a contract what a poll finds.
+    pub fn hear(&mut self, sender: &mut Sender)
+        requires { sender.old.queue ≡ self.old.queue }
+        ensures receiver { self.new ≡ heard_from self.old sender.old }
+        ensures sender { sender.new ≡ sender.old }
+        ensures counts { length sender.old.places ≡ length sender.old.own }
+    {
+        self.ring.tell(&mut self.seat, &mut sender.seat);
+    }
+
     /// Takes back a sender of the queue, with its accepted messages.
     pub fn take_back(&mut self, sender: Sender)
         requires { sender.queue ≡ self.old.queue }
         ensures { self.new ≡ taken_back self.old sender }
     {
-        self.ring.take_in(&mut self.seat, sender.seat);
+        self.ring.take_in::<Brand>(&mut self.seat, sender.seat);
         keep(&mut self.spares, sender.spare);
     }
 

@@ -6,12 +6,12 @@ ghost use Rattle.subvl_queue.specs.declared.rule.Role.TheVariants.{Sender, Recei
 ghost use Rattle.subvl_queue.specs.declared.rule.Stage.TheVariants.{Idle, Asked, Refused, Drew, Late, Holding};
 ghost use Rattle.subvl_queue.specs.Messages.{IsMessage, most_bytes, room_with};
 ghost use Rattle.subvl_queue.specs.Queue.{IsAtTable, RestsAs, IsSlotOf};
-ghost use Rattle.subvl_queue.specs.Steps.{new_seat, Finds, Misses, IsLog, with_ask, idle, drawn, lated, with_glance, with_total, one_made, with_joined, with_all, freed_of};
+ghost use Rattle.subvl_queue.specs.Steps.{new_seat, Finds, Misses, AreInRow, IsLog, with_ask, undone, published, drawn, lated, with_glance, with_total, one_made, with_joined, telling, hearing, with_all, freed_of};
 
 use crate::room::Room;
 use crate::rule::{
-    Claim, Close, Gather, IsClosed, IsReady, Known, Make, Publish, Reserve, Rule, Said, Take,
-    TakeIn, Unreserve,
+    Claim, Close, Gather, IsClosed, IsReady, Known, Left, Make, Publish, Reserve, Rule, Said, Take,
+    TakeIn, Tells, Unreserve,
 };
 use atomic_table::{Seat, Table};
 use std::alloc::Global;
@@ -70,7 +70,7 @@ impl Ring {
         requires role { seat.old.me.0.role ≡ Sender }
         requires stage { (seat.old.me.0.stage ≡ Refused) ⊎ (seat.old.me.0.stage ≡ Late) }
         ensures seat { IsAtTable self.now.table.shared.table_id seat.new × (seat.new.me.1 ≡ []) }
-        ensures view { seat.new.me.0 ≡ idle seat.old.me.0 }
+        ensures view { seat.new.me.0 ≡ undone seat.old.me.0 seat.new.me.0.asks_then }
     {
         self.table.shared.fetch_add::<Unreserve>(seat, ROOM, 1);
     }
@@ -144,7 +144,7 @@ impl Ring {
         requires view { (seat.old.me.0.role ≡ Sender) × (seat.old.me.0.stage ≡ Drew) }
         requires item { (seat.old.me.0.at ≡ place) × (spare.old ≡ room_with self.now.most seat.old.me.0.item) }
         ensures seat { IsAtTable self.now.table.shared.table_id seat.new }
-        ensures view { seat.new.me ≡ (idle seat.old.me.0, []) }
+        ensures view { seat.new.me ≡ (published seat.old.me.0 seat.new.me.0.looks_then, []) }
         ensures room { spare.new ≡ room_with self.now.most None }
     {
         swap(seat.slot_mut(&self.table.shared, slot), spare);
@@ -164,6 +164,7 @@ impl Ring {
         ensures found { IsTrue result → (x : _)
             × Finds (room_with self.now.most) IsMessage self.now.capacity place seat.old.me seat.new.me x }
         ensures none { result ≡ false → Misses place seat.old.me seat.new.me }
+        ensures row { seat.old.me.0.made ≡ 1 → AreInRow seat.old.me.0.heard }
     {
         self.table.shared.load::<IsReady<W>>(seat, READY + slot) == place + 1
     }
@@ -179,7 +180,8 @@ impl Ring {
         requires place { seat.old.me.0.at % self.now.capacity ≡ slot }
         ensures seat { IsAtTable self.now.table.shared.table_id seat.new }
         ensures room { room.new ≡ room_with self.now.most seat.old.me.0.item }
-        ensures view { (x : _) × (seat.old.me.0.item ≡ Some x) × (seat.new.me ≡ (freed_of seat.old.me.0 x, [])) }
+        ensures view { (x : _) × (seat.old.me.0.item ≡ Some x)
+            × (seat.new.me ≡ (freed_of seat.old.me.0 x seat.new.me.0.asks_then, [])) }
     {
         swap(seat.slot_mut(&self.table.shared, slot), room);
         self.table.shared.fetch_add::<Take>(seat, ROOM, 1);
@@ -199,7 +201,7 @@ impl Ring {
         requires seat { RestsAs self.now.table.shared.table_id Receiver seat.old }
         requires open { seat.old.me.0.total ≡ None }
         ensures seat { IsAtTable self.now.table.shared.table_id seat.new }
-        ensures view { seat.new.me ≡ (with_total seat.old.me.0 result, []) }
+        ensures view { seat.new.me ≡ (with_total seat.old.me.0 result seat.new.me.0.glances_then, []) }
         ensures taken { length seat.old.me.0.taken ≤ result }
     {
         self.table.shared.fetch_or::<Close>(seat, TAIL, CLOSED)
@@ -232,13 +234,27 @@ impl Ring {
     }
 
     /// Takes in a sender's seat, with its knowledge.
-    pub fn take_in(&self, seat: &mut Knowing, other: Knowing)
+    pub fn take_in<W: Left>(&self, seat: &mut Knowing, other: Knowing)
+        requires left { (W.looks_then ≡ other.me.0.looks_then) × (W.asks_then ≡ other.me.0.asks_then) }
         requires seat { RestsAs self.now.table.shared.table_id Receiver seat.old }
         requires all { seat.old.me.0.all ≡ None }
         requires other { RestsAs self.now.table.shared.table_id Sender other }
         ensures seat { IsAtTable self.now.table.shared.table_id seat.new }
         ensures view { seat.new.me ≡ (with_joined seat.old.me.0 other.me.0, []) }
     {
-        self.table.shared.join_seat::<TakeIn>(seat, other);
+        self.table.shared.join_seat::<TakeIn<W>>(seat, other);
+    }
+
+    /// Tells the receiver the messages of a sender that is between two calls.
+    pub fn tell(&self, seat: &mut Knowing, teller: &mut Knowing)
+        requires seat { RestsAs self.now.table.shared.table_id Receiver seat.old }
+        requires teller { RestsAs self.now.table.shared.table_id Sender teller.old }
+        ensures seat { IsAtTable self.now.table.shared.table_id seat.new }
+        ensures view { seat.new.me ≡ (hearing seat.old.me.0 (telling teller.old.me.0), []) }
+        ensures teller { IsAtTable self.now.table.shared.table_id teller.new }
+        ensures same { teller.new.me ≡ (teller.old.me.0, []) }
+    {
+        let told = self.table.shared.split_seat::<Tells>(teller);
+        self.table.shared.join_seat::<Tells>(seat, told);
     }
 }

@@ -1,8 +1,8 @@
 //! The rule, the knowledge of a seat at the table, and the outcome of each step. No value of these types is made.
-ghost use Rattle.std.specs.Prelude.{ℕ, List, Option, None, length};
+ghost use Rattle.std.specs.Prelude.{ℕ, List, [], Option, None, length};
 ghost use Rattle.subvl_queue.specs.Messages.{IsMessage, room_with};
 ghost use Rattle.subvl_queue.specs.Queue.{Queue};
-ghost use Rattle.subvl_queue.specs.Steps.{first_view, new_seat, spent_view, reserves, unreserves, claims, publishes, finds_ready, takes_out, finds_closed, closes, gathers, one_made, with_joined};
+ghost use Rattle.subvl_queue.specs.Steps.{first_view, new_seat, spent_view, reserves, unreserves, claims, publishes, finds_ready, takes_out, finds_closed, closes, gathers, one_made, with_joined, telling, hearing, no_seat};
 
 use crate::room::Room;
 use atomic_table::{Join, Play, Split, TableRule};
@@ -26,6 +26,11 @@ pub enum Stage {
 
 // `own` has each accepted message with its place. `load` is the number of held messages and slot requests under way at
 // the seat's last slot request. `at` and `item` are the place and the message of the slot that it holds.
+//
+// Whether another seat's answer is true is judged by the counts of it that a seat took at its own steps: `looks_then`,
+// the receiver's looks when the seat last made a place ready; `asks_then`, for each place or slot request that it gave
+// back, the slot requests of each seat; `glances_then`, the checks of each seat at the close. `heard` has the lists of
+// senders that the seat heard of, each with its port.
 pub struct View<T> {
     pub role: Role,
     pub port: u64,
@@ -39,6 +44,10 @@ pub struct View<T> {
     pub shut: bool,
     pub looks: u64,
     pub found: bool,
+    pub looks_then: u64,
+    pub asks_then: LinkedList<LinkedList<u64>>,
+    pub glances_then: LinkedList<u64>,
+    pub heard: LinkedList<(u64, LinkedList<(u64, T)>)>,
     pub taken: LinkedList<(u64, T)>,
     pub made: u64,
     pub joined: LinkedList<(u64, LinkedList<(u64, T)>)>,
@@ -140,10 +149,40 @@ impl Split<Known> for Make {
     ghost right = { λ v. new_seat v.made };
 }
 
-pub(crate) struct TakeIn;
+// The counts that a sender took at its last step and at those in which it gave something back, for the proof alone.
+pub(crate) trait Left {
+    ghost looks_then: { ℕ };
 
-impl Join<Known> for TakeIn {
+    ghost asks_then: { List (List ℕ) };
+}
+
+impl Left for Brand {
+    ghost looks_then = { 0 };
+
+    ghost asks_then = { [] };
+}
+
+pub(crate) struct TakeIn<W> {
+    marker: PhantomData<W>,
+}
+
+impl<W: Left> Join<Known> for TakeIn<W> {
     ghost both = { with_joined };
 
-    ghost spent = { spent_view };
+    ghost spent = { spent_view W.looks_then W.asks_then };
+}
+
+// The step in which a sender tells the receiver its accepted messages.
+pub(crate) struct Tells;
+
+impl Split<Known> for Tells {
+    ghost left = { λ v. v };
+
+    ghost right = { telling };
+}
+
+impl Join<Known> for Tells {
+    ghost both = { hearing };
+
+    ghost spent = { no_seat };
 }

@@ -1,4 +1,4 @@
-use Rattle.subvl_queue.proofs.Names.{rules, ℕ, sym, subst, ◌∙◌, suc, ◌≡◌, ◌+◌, arith, length, eqb-true, Allows, finds_ready, step, none, Queue, IsMessage, room_with}
+use Rattle.subvl_queue.proofs.Names.{rules, ℕ, sym, subst, ◌∙◌, suc, ◌≡◌, ◌+◌, arith, length, eqb-true, eq-eqb, ◌≢◌, Misses, Allows, finds_ready, step, none, Queue, IsMessage, room_with}
 use Rattle.subvl_queue.proofs.Moves.{finds_ready_ok}
 use Rattle.subvl_queue.proofs.ring.Ring.is_ready.Goals as goal
 
@@ -20,3 +20,9 @@ returns-clause-found g c = λ hit.
     let ready : c.load.result ≡ suc (length c.args.seat.now.me.0.taken) = omega arith in
     let found = c.load.ensures.2.0 ready in
     (found.0, grind arith)
+
+pub returns-clause-none : goal.returns-clause-none
+returns-clause-none g c = λ miss.
+    let apart : c.load.result ≢ suc (length c.args.seat.now.me.0.taken) = λ ready.
+    let here : c.load.result ≡ c.args.place + 1 = omega arith in absurd (grind (arith, eq-eqb)) in
+    subst (λ (p : ℕ). Misses p c.args.seat.now.me c.load.new.seat.me) (sym c.requires.place.0) (c.load.ensures.2.1 apart)
