@@ -19,6 +19,7 @@ pub use Rattle.afdx_tx.specs.Calls.{ClosesTx, LacksSub, IsFirstDue, NoneDueBefor
 pub use Rattle.afdx_tx.specs.Run.{AreGathered, Drains, DrainsAt, IsDrained, accepted_by, accepted_in, accepted_view, pace_in, IsRun, IsTurn, IsTurnAt}
 pub use Rattle.afdx_tx.specs.DrainEnds.{AreApartBy, AreDrained, DrainEnds, DrainsOne, no_lines, one_line, owed, owed_at, stream_at, line_of, failed_line, two_moments, one_line_at, two_accepted, StartsAfter, AreEnough, LeavesOne, NeedsItsPolls}
 pub use Rattle.afdx_tx.specs.Emitter.{AreApart, AreCarried, AreFreshLinks, AreLinks, AreLinksOf, AreOpenedLinks, AreOpenedSubs, AreReceiving, AllWaitUntil, AreServedBy, AreWhole, HaveOwnItems, IsOpenedLink, IsOpenedSub, IsSamePlan, IsSound, Tx, held_queue, link_queues, greatest_of, plan_of_link, plans, ports_of_sub, queues_in, taken_in, total_in, IsLinkAt}
+pub use Rattle.afdx_tx.specs.Hearing.{HearsTx, place_of}
 pub use Rattle.afdx_tx.specs.Gathering.{AreFull, GathersLinks, GathersPorts, HasOwnPart, IsGatheredTx, IsTakenBack, OnlyTakeBack, OnlyTakesBack, held_for}
 pub use Rattle.afdx_tx.specs.Ports.{AreOpenedWith, BelongsTo, HasEveryPlace, HasOwnMessages, HasPlace, IsFreshPort, PortView, index_of, queue_at, MaySend}
 pub use Rattle.afdx_tx.specs.Report.{IsTold, turn_release}
@@ -41,7 +42,7 @@ pub use Rattle.vl_link.proofs.Choosing.{each_set, stream_more}
 pub use Rattle.vl_link.proofs.LinkTurn.{HasItems, IsOwn, Turned, kept_stream, kept_turn, link_turn, other_stream, other_turn, turn_at}
 pub use Rattle.vl_link.proofs.QueueLooks.{items_taken, same_name, same_total, fragments_some}
 pub use Rattle.vl_link.proofs.TurnLaws.{turn_endures, turn_seen, turns_endure, turns_push, turns_seen}
-pub use Rattle.vl_link.specs.Calls.{ChangesSub, ChangesQueue, Closes, MakesSender, BecomesDue, RestsUntil, StaysAsIs, GathersLink, LacksSender, TakesBack, back_of, TellsLinkDone}
+pub use Rattle.vl_link.specs.Calls.{ChangesSub, ChangesQueue, Closes, Hears, MakesSender, BecomesDue, RestsUntil, StaysAsIs, GathersLink, LacksSender, TakesBack, back_of, TellsLinkDone}
 pub use Rattle.vl_link.specs.Kept.{IsKept, IsLinkTied, IsPortOf, AreOfEndSystem, plans_of}
 pub use Rattle.vl_link.specs.Links.{Asks, Follows, HasOwnItems, Held, IsLinkOfPlan, IsSameLink, LinkState, Serves, held_at, held_view, link_at, no_link, no_link_plan, nothing_held, sent_by, sent_of, taken_by}
 pub use Rattle.vl_link.specs.Seen.{IsKnownWhole, IsReceiving, Seen, gathered, known_of, queue_of, receiving, taken_of}

@@ -2,6 +2,7 @@ pub mod Calls
 pub mod DrainEnds
 pub mod Emitter
 pub mod Gathering
+pub mod Hearing
 pub mod Phases
 pub mod Ports
 pub mod Report

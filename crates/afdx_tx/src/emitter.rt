@@ -11,12 +11,13 @@ ghost use Rattle.status_board.specs.Views.{published, seen, last_of, links_of, I
 ghost use Rattle.afdx_plan.specs.Config.{IsPlan};
 ghost use Rattle.afdx_legal.specs.Accepted.{AreAllowed, IsAllDone};
 ghost use Rattle.afdx_tx.specs.Run.{accepted_in};
-ghost use Rattle.afdx_tx.specs.Ports.{AreOpenedWith, LacksPlace};
+ghost use Rattle.afdx_tx.specs.Ports.{AreOpenedWith, IsPortOfTx, LacksPlace};
 ghost use Rattle.afdx_tx.specs.Gathering.{IsGatheredTx};
+ghost use Rattle.afdx_tx.specs.Hearing.{HearsTx};
 
 use crate::fault::{NoSuchSub, PollFault};
 use crate::gather::{gather_links, has_every_place};
-use crate::open::link_of_sub;
+use crate::open::{link_of, link_of_sub, port_at};
 use crate::port::TxPort;
 use crate::turns::{Notes, Report, Unreported, all_done, first_due, publish_all, serve_all};
 use afdx_frame::{FrameBuffer, Net};
@@ -281,6 +282,21 @@ impl<A: Network + Drop, B: Network + Drop> Emitter<A, B> {
             None => Err(NoSuchSub),
             Some(place) => Ok(self.links[place].close(sub)),
         }
+    }
+
+    /// Tells the emitter of the messages that a port has sent. A poll that comes to the port's sub-VL then finds each of
+    /// them once it is the next, and not only one that happens to be ready. No message needs this call: it is for
+    /// whoever has both ends at hand, and states in a contract what a poll releases. Never waits, and allocates nothing.
+    pub fn hear(&mut self, port: &mut TxPort)
+        requires opened { IsPortOfTx self.old port.old }
+        ensures emitter { HearsTx self.old port.old self.new }
+        ensures port { port.new ≡ port.old }
+        ensures counts { length port.old.sender.places ≡ length port.old.sender.own }
+        ensures queues { queues_in self.new.links ≡ queues_in self.old.links }
+    {
+        let plan = port_at(&self.config, port.place());
+        let place = link_of(&self.config, &plan);
+        port.tell(&mut self.links[place]);
     }
 
     /// Takes back all ports, in any order, and starts draining: all accepted messages are then

@@ -1,12 +1,16 @@
 //! A port, for a thread of its own.
-ghost use Rattle.std.specs.Prelude.{◌≡◌, ◌≤◌, length, All, ◌<◌, [], IfOk, IfErr};
+ghost use Rattle.std.specs.Prelude.{◌≡◌, ◌≤◌, length, All, ◌<◌, [], IfOk, IfErr, Some};
 ghost use Rattle.afdx_tx.specs.Ports.{refusal_of, PortView, MaySend, HasOwnMessages, Accepts, Refuses, length_refusal};
 ghost use Rattle.afdx_plan.specs.Plan.{IsPort};
+ghost use Rattle.vl_link.specs.Calls.{ChangesSub, ChangesQueue, Hears};
+ghost use Rattle.vl_link.specs.Links.{held_at};
+ghost use Rattle.vl_link.specs.Seen.{queue_of};
 
 use crate::fault::{Refusal, SendFault};
 use afdx_plan::{PortId, PortPlan, UdpSum};
 use std::marker::Model;
 use subvl_queue::{Sender, Why};
+use vl_link::Link;
 
 /// A port of an emitter, which may be moved to another thread. Contracts see its place in the
 /// plan, its entry there, and its sender with the port's accepted messages.
@@ -89,6 +93,17 @@ impl TxPort {
         ensures { result ≡ self.now.place }
     {
         self.place
+    }
+
+    // Tells a link of the port's messages.
+    pub(crate) fn tell(&mut self, link: &mut Link)
+        requires within { self.old.plan.sub < length link.old.subs }
+        requires own { queue_of (held_at link.old.subs self.old.plan.sub).seen ≡ Some self.old.sender.queue }
+        ensures link { ChangesSub (ChangesQueue (Hears self.old.sender)) self.old.plan.sub link.old link.new }
+        ensures port { self.new ≡ self.old }
+        ensures counts { length self.old.sender.places ≡ length self.old.sender.own }
+    {
+        link.hear(self.plan.sub, &mut self.sender);
     }
 
     // Returns the port's sender.

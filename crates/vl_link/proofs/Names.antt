@@ -21,7 +21,8 @@ pub use Rattle.std.proofs.lemmas.Bool.{and_parts, both_ways, cases_Bool, cases_e
 pub use Rattle.std.proofs.lemmas.List.{append-nil, append_assoc, get_or-set_other, get_or-set_same, get_or-take, get_or_append_left, get_or_default, length-append, length-map, length-set, length-take, length_push, map-append}
 pub use Rattle.std.proofs.lemmas.List.Elements.{All-head, All-map, All-push, All-tail, filter-append}
 pub use Rattle.std.proofs.lemmas.List.Sums.{sum_by-append, sum_by-cons}
-pub use Rattle.std.specs.Prelude.{All, count_by, is_some, IfSome}
+pub use Rattle.std.specs.Prelude.{All, count_by, is_some, IfNone, IfSome}
+pub use Rattle.subvl_queue.specs.Views.{HasAt, HaveRows, ReceiverView, after_take, looked}
 pub use Rattle.vl_link.specs.Kept.{IsKept, IsLinkTied, IsTied, ShowsChoices, begun_after, begun_by, none_begun, shown_choice, IsSub, plans_of, seen_of, cut_among}
 pub use Rattle.vl_link.specs.Calls.{AreFullSubs, GathersSub, IsFullSub, StaysAsIs, TellsSubDone}
 pub use Rattle.vl_link.specs.Links.{AreSameSubs, AreSubsOf, Asks, Follows, Gives, GivesFrame, HasOwnItems, Held, IsLinkOfPlan, IsPicked, IsSameLink, IsSameSub, LinkState, PassedOver, Passes, Serves, Starts, held_at, held_view, left_of, message_fragments, nothing_held, pace_of, sent_of, sub_fragments, taken_by}

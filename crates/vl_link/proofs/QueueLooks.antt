@@ -1,10 +1,23 @@
 -- A queue after a poll, the fragments left, and the invariant of its sub-VL.
-use Rattle.vl_link.proofs.Names.{ℕ, ◌≡◌, List, [], ◌∷◌, ◌++◌, arith, sym, subst, append_assoc, length-append, get_or_append_left, All-push, Seen, receiving, gathered, taken_of, known_of, ports_of, queue_of, total_of, FindsNothing, Finds, IsSameQueue, ◌+◌, SubVl, PortPlan, ◌≢◌, ◌<◌, length, map, refl, Bool, true, Some, None, ap, ◌∙◌, ◌%◌, sent_of, Held, Starts, IsSub, fragments_again, room_of, A, cutting, pieces_from, pieces_left, Sent, Option, cutting_some, left_of, message_fragments, fragments_at, unnumbered, port_plan_at, Remains, cut_of, whole, cut_whole, is_some, IfSome, ◌≤◌, IsItem, AreItems, cut_among, RoomView, bytes_of, port_of, room_with, most_of}
+use Rattle.vl_link.proofs.Names.{ℕ, ◌≡◌, List, [], ◌∷◌, ◌++◌, arith, sym, subst, append_assoc, length-append, get_or_append_left, All-push, Seen, receiving, gathered, taken_of, known_of, ports_of, queue_of, total_of, FindsNothing, Finds, IsSameQueue, ◌+◌, SubVl, PortPlan, ◌≢◌, ◌<◌, length, map, refl, Bool, true, Some, None, ap, ◌∙◌, ◌%◌, sent_of, Held, Starts, IsSub, fragments_again, room_of, A, cutting, pieces_from, pieces_left, Sent, Option, cutting_some, left_of, message_fragments, fragments_at, unnumbered, port_plan_at, Remains, cut_of, whole, cut_whole, is_some, IfSome, ◌≤◌, IsItem, AreItems, cut_among, RoomView, bytes_of, port_of, room_with, most_of, ReceiverView, HasAt, HaveRows, IfNone, looked, after_take}
 
 -- A poll that found a message took it.
 pub taken_finds : (old : Seen) (message : ℕ × List ℕ) (new : Seen) → Finds old message new
     → taken_of new ≡ taken_of old ++ message ∷ []
 taken_finds old message new f = grind arith
+
+-- A poll of a receiver found nothing, or a message, and agrees with what the receiver heard.
+pub takes_nothing : (old new : ReceiverView) (item : Option (ℕ × List ℕ)) → IfNone item (new ≡ looked old)
+    → ((x : ℕ × List ℕ) → HasAt old.heard (length old.taken) x → item ≡ Some x) → (old.ports ≡ 1 → HaveRows old.heard)
+    → IfNone item (FindsNothing (receiving old) (receiving new))
+takes_nothing old new None none heard alone = (ap receiving none, record { heard = heard; alone = alone })
+takes_nothing old new (Some x) none heard alone = tt
+
+pub takes_one : (old new : ReceiverView) (item : Option (ℕ × List ℕ)) → IfSome item (λ x. new ≡ after_take old x)
+    → ((x : ℕ × List ℕ) → HasAt old.heard (length old.taken) x → item ≡ Some x) → (old.ports ≡ 1 → HaveRows old.heard)
+    → IfSome item (λ x. Finds (receiving old) x (receiving new))
+takes_one old new None some heard alone = tt
+takes_one old new (Some x) some heard alone = (ap receiving some, record { heard = heard; alone = alone })
 
 -- After a poll that found nothing the queue is the same.
 pub same_nothing : (old new : Seen) → FindsNothing old new → IsSameQueue old new
@@ -22,7 +35,7 @@ items_nothing n old new f items = grind arith
 pub items_finds : (n : ℕ) (old : Seen) (message : ℕ × List ℕ) (new : Seen) → Finds old message new → IsItem n message
     → AreItems n (known_of old) → AreItems n (known_of new)
 items_finds n (receiving r) message new f item items =
-    subst (λ (seen : Seen). AreItems n (known_of seen)) (sym f) (All-push (IsItem n) r.taken message items item)
+    subst (λ (seen : Seen). AreItems n (known_of seen)) (sym f.0) (All-push (IsItem n) r.taken message items item)
 items_finds n (gathered g) message new f item items = grind (arith, append_assoc)
 
 -- The messages taken are of the ports of the known messages.

@@ -1,7 +1,7 @@
 -- The calls of a link beside its turn: its senders, the time at which it becomes due, closing, gathering, and the
 -- messages left to send.
 use Rattle.std.specs.Prelude.{ℕ, ◌≡◌, ◌<◌, ◌≤◌, length, slice_set, IfSome, ◌⊎◌, ◌^◌, true, false, List, [], Bool}
-use Rattle.subvl_queue.specs.Views.{closed, SenderView, Brought, new_sender, one_more, taken_back, AreBack, IsWhole, accepted_of}
+use Rattle.subvl_queue.specs.Views.{closed, SenderView, Brought, new_sender, one_more, taken_back, heard_from, AreBack, IsWhole, accepted_of}
 use Rattle.vl_link.specs.Seen.{Seen, receiving, gathered, TellsDrained, ports_of, known_of, IsReceiving}
 use Rattle.vl_link.specs.Links.{Held, LinkState, held_at, HasOwnItems}
 use Rattle.afdx_plan.specs.declared.link_plan.LinkPlan.{LinkPlan}
@@ -81,6 +81,11 @@ MayHaveMore (gathered g) = ⊥
 abbrev pub TakesBack : SenderView → (old new : Seen) → Type 0
 TakesBack sender (receiving old) new = new ≡ receiving (taken_back old sender)
 TakesBack sender (gathered old) new = ⊥
+
+-- the queue heard of this sender's messages
+abbrev pub Hears : SenderView → (old new : Seen) → Type 0
+Hears sender (receiving old) new = new ≡ receiving (heard_from old sender)
+Hears sender (gathered old) new = ⊥
 
 -- the messages that the returned senders brought
 abbrev pub back_of : Seen → List Brought

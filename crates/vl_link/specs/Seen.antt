@@ -1,6 +1,6 @@
 -- The taking end of a sub-VL's queue. A message is a pair of its port's index and its bytes.
-use Rattle.std.specs.Prelude.{ℕ, ◌≡◌, List, [], ◌∷◌, ◌++◌, Bool, true, false, Option, Some, None}
-use Rattle.subvl_queue.specs.Views.{QueueName, ReceiverView, GatheredView, looked, after_take, accepted_of}
+use Rattle.std.specs.Prelude.{ℕ, ◌≡◌, List, [], ◌∷◌, ◌++◌, length, Bool, true, false, Option, Some, None}
+use Rattle.subvl_queue.specs.Views.{QueueName, ReceiverView, GatheredView, looked, after_take, accepted_of, HasAt, HaveRows}
 
 -- a receiver whose ports may still send, or all ends of the queue, with its messages known whole
 pub data Seen : Type 0 where
@@ -46,14 +46,20 @@ IsKnownWhole (gathered g) = Unit {0}
 abbrev pub nothing_seen : Seen
 nothing_seen = gathered (record { most = 0; ports = 0; taken = []; left = [] })
 
+-- The result of a poll, which agrees with what the receiver heard: the next message, if the receiver heard of it, was
+-- found. With one sender each message that the receiver heard of has its index as its place.
+pub record Heeds (r : ReceiverView) (hit : Option (ℕ × List ℕ)) : Type 0 where
+  pub heard : (item : ℕ × List ℕ) → HasAt r.heard (length r.taken) item → hit ≡ Some item
+  pub alone : r.ports ≡ 1 → HaveRows r.heard
+
 -- a poll that finds nothing ready; if the messages are known whole, none is left
 abbrev pub FindsNothing : (old new : Seen) → Type 0
-FindsNothing (receiving old) new = new ≡ receiving (looked old)
+FindsNothing (receiving old) new = (new ≡ receiving (looked old)) × Heeds old None
 FindsNothing (gathered old) new = (old.left ≡ []) × (new ≡ gathered old)
 
 -- a poll that finds and takes this message; if the messages are known whole, it is the next
 abbrev pub Finds : (old : Seen) → ℕ × List ℕ → (new : Seen) → Type 0
-Finds (receiving old) message new = new ≡ receiving (after_take old message)
+Finds (receiving old) message new = (new ≡ receiving (after_take old message)) × Heeds old (Some message)
 Finds (gathered old) message new =
     (more : List (ℕ × List ℕ))
     × (old.left ≡ message ∷ more)

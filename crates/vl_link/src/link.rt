@@ -6,7 +6,7 @@ ghost use Rattle.redundant_mux.specs.Lines.{BothEndure, log, Entry, entry};
 ghost use Rattle.afdx_legal.specs.Streams.{link_stream};
 ghost use Rattle.vl_link.specs.Links.{pace_of, AreSubsOf, AreSameSubs, Serves, Follows, IsPicked, PassedOver, LinkState, IsLinkOfPlan, AreNamed, IsSameLink, held_at};
 ghost use Rattle.vl_link.specs.Turn.{may_release, is_lost};
-ghost use Rattle.vl_link.specs.Calls.{TellsSubsDone, AreFullSubs, GathersSubs, BecomesDue, StaysAsIs, TellsLinkDone, GathersLink, LacksSender, ChangesSub, ChangesQueue, Closes, MakesSender, TakesBack};
+ghost use Rattle.vl_link.specs.Calls.{TellsSubsDone, AreFullSubs, GathersSubs, BecomesDue, StaysAsIs, TellsLinkDone, GathersLink, LacksSender, ChangesSub, ChangesQueue, Closes, MakesSender, TakesBack, Hears};
 ghost use Rattle.afdx_frame.specs.Profile.{fragment_field};
 ghost use Rattle.afdx_frame.specs.Frame.{more_fragments};
 ghost use Rattle.std.specs.Box.{boxed_slice_items};
@@ -291,6 +291,18 @@ impl Link {
         ensures { ChangesSub (ChangesQueue (TakesBack sender)) sub self.old self.new }
     {
         self.subs[sub as usize].take_back(sender);
+    }
+
+    /// Tells the queue of a sub-VL of the messages that a sender of it has sent, as `Sub::hear` does.
+    #[tactic(auto, using(std::proofs::lemmas::Grind::common_steps))]
+    pub fn hear(&mut self, sub: u8, sender: &mut Sender)
+        requires within { sub < length self.old.subs }
+        requires own { queue_of (held_at self.old.subs sub).seen ≡ Some sender.old.queue }
+        ensures queue { ChangesSub (ChangesQueue (Hears sender.old)) sub self.old self.new }
+        ensures sender { sender.new ≡ sender.old }
+        ensures counts { length sender.old.places ≡ length sender.old.own }
+    {
+        self.subs[sub as usize].hear(sender);
     }
 
     /// Brings the ends of each sub-VL's queue together, once all its senders are back.

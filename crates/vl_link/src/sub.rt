@@ -9,7 +9,7 @@ ghost use Rattle.vl_link.specs.Seen.{most_of, ports_of, FindsNothing, Finds, Tel
 ghost use Rattle.vl_link.specs.Kept.{seen_of, IsSub, AreOfEndSystem, plans_of, cut_among, IsPortOf};
 ghost use Rattle.std.specs.Box.{boxed_slice_items};
 ghost use Rattle.vl_link.specs.Links.{Held, left_of, Asks};
-ghost use Rattle.vl_link.specs.Calls.{TellsSubDone, IsFullSub, GathersSub, LacksSender, ChangesQueue, Closes, MakesSender, TakesBack};
+ghost use Rattle.vl_link.specs.Calls.{TellsSubDone, IsFullSub, GathersSub, LacksSender, ChangesQueue, Closes, MakesSender, TakesBack, Hears};
 
 use afdx_frame::{FrameBuffer, Net, Rest, Template};
 use afdx_plan::LinkPlan;
@@ -196,6 +196,20 @@ impl Sub {
     {
         match &mut self.queue {
             Queue::Receiving(receiver) => receiver.take_back(sender),
+            _ => unreachable!(),
+        }
+    }
+
+    /// Tells the sub-VL's queue of the messages that a sender of it has sent. A poll then finds each of them once it is
+    /// the next (clause `heard` of `Receiver::take`).
+    pub fn hear(&mut self, sender: &mut Sender)
+        requires own { queue_of self.old.seen ≡ Some sender.old.queue }
+        ensures queue { ChangesQueue (Hears sender.old) self.old self.new }
+        ensures sender { sender.new ≡ sender.old }
+        ensures counts { length sender.old.places ≡ length sender.old.own }
+    {
+        match &mut self.queue {
+            Queue::Receiving(receiver) => receiver.hear(sender),
             _ => unreachable!(),
         }
     }
