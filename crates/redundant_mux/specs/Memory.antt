@@ -1,5 +1,5 @@
 -- Networks in memory: two that keep all frames, one of them with all bytes in one buffer, and one that keeps the last.
-use Rattle.std.specs.Prelude.{ℕ, List, [], Option, Some, None, All, take, drop, map, ◌≡◌, ◌≢◌, ◌⊎◌, ◌↔◌, ◌+◌, ◌-◌, ◌%◌, ◌^◌, ◌<◌, ◌≤◌, ◌∷◌, ◌++◌, Bool, true, false, length, get_or}
+use Rattle.std.specs.Prelude.{ℕ, List, [], Option, Some, None, All, take, drop, map, ◌≡◌, ◌≢◌, ◌⊎◌, ◌↔◌, ◌+◌, ◌-◌, ◌%◌, ◌^◌, ◌<◌, ◌≤◌, ◌∷◌, Bool, true, false, length, get_or}
 use Rattle.std.specs.List.{sum_by}
 use Rattle.std.specs.Borrow.{Bor}
 use Rattle.afdx_frame.specs.declared.net.TheConstants.{GREATEST_FRAME}

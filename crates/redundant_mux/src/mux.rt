@@ -10,9 +10,11 @@ use crate::network::{Failable, Network};
 use afdx_frame::{Frame, FrameBuffer, GREATEST_FRAME, Net};
 use afdx_plan::Networks;
 use std::marker::Model;
+use thiserror::Error;
 
 /// Both networks have failed before.
-#[derive(Clone, Copy, Debug, PartialEq, Eq)]
+#[derive(Clone, Copy, Debug, PartialEq, Eq, Error)]
+#[error("both networks have failed")]
 pub struct BothDown;
 
 /// The networks that are up.

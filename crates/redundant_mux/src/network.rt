@@ -3,9 +3,11 @@ ghost use Rattle.std.specs.Prelude.{◌≡◌, ℕ, ◌+◌, ◌^◌, ◌<◌, �
 ghost use Rattle.redundant_mux.specs.Lines.{Entry, entry, IsAnswer};
 
 use afdx_frame::{FrameBuffer, GREATEST_FRAME};
+use thiserror::Error;
 
 /// The network did not accept a frame.
-#[derive(Clone, Copy, Debug, PartialEq, Eq)]
+#[derive(Clone, Copy, Debug, PartialEq, Eq, Error)]
+#[error("the network did not accept the frame")]
 pub struct HandFault;
 
 /// A network. Contracts see the frames that it accepted, with their times in microseconds, its number of failures,
