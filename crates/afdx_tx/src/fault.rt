@@ -27,7 +27,8 @@ pub enum Refusal {
 }
 
 /// A refused message, and the reason. The accepted messages are unchanged.
-#[derive(Debug, Drop)]
+#[derive(Debug, Drop, Error)]
+#[error("message refused: {why}")]
 pub struct SendFault {
     pub why: Refusal,
     pub bytes: Vec<u8>,
@@ -47,7 +48,8 @@ pub enum PollFault {
 pub struct NoSuchSub;
 
 /// An allocation failed. The arguments are returned unchanged.
-#[derive(Drop)]
+#[derive(Debug, Drop, Error)]
+#[error("out of memory")]
 pub struct OpenFault<A: Network + Drop, B: Network + Drop> {
     pub config: Config,
     pub a: A,
