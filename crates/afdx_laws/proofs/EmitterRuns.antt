@@ -3,6 +3,7 @@ use Rattle.afdx_laws.proofs.RunNames.{None, inr, ◌⊎◌, DrainPolls, IsDraine
 use Rattle.afdx_frame.specs.Checksum.{checksum}
 use Rattle.afdx_laws.proofs.WorkedRuns.{has_room, not_released}
 use Rattle.afdx_laws.proofs.NextRun.{next_in_run_holds}
+use Rattle.afdx_laws.proofs.Used.{untold}
 use Rattle.afdx_laws.proofs.MessageRun.{message_in_run_holds}
 
 by_three : (P : ℕ → Type 0) → P 0 → P 1 → P 2 → (s : ℕ) → s < 3 → P s
@@ -111,13 +112,13 @@ end_left = blanked (end_frame A) ∷ []
 first_poll : FindsIt three_plan 0 1 2 3000 (line_after 1) (line_after 2)
 unfolding log checksum addresses header_front internet_header link_header udp_header datagram unnumbered cutting fragments_at
 first_poll = gives 3000 1 1 (short_frame 1 0 1 A) end_left end_left 0 1 0 0 (line_after 1) (line_after 2) refl refl refl
-    (starts 1 0 1 (short_frame 1 0 1 A) refl refl) (grind arith) (by_three _ refl refl refl)
+    (starts 1 0 1 (short_frame 1 0 1 A) (refl, untold _ _ refl) refl) (grind arith) (by_three _ refl refl refl)
     refl refl refl refl refl refl refl (grind arith)
 
 second_poll : FindsIt three_plan 0 1 2 6000 (line_after 2) (line_after 3)
 unfolding log checksum addresses header_front internet_header link_header udp_header datagram unnumbered cutting fragments_at
 second_poll = gives 6000 2 2 (short_frame 2 0 2 A) end_left end_left 1 1 0 1 (line_after 2) (line_after 3) refl refl refl
-    (starts 2 0 1 (short_frame 2 0 2 A) refl refl) (grind arith) (by_three _ refl refl refl)
+    (starts 2 0 1 (short_frame 2 0 2 A) (refl, untold _ _ refl) refl) (grind arith) (by_three _ refl refl refl)
     refl refl refl refl refl refl refl (grind arith)
 
 third_poll : FindsIt three_plan 0 1 2 9000 (line_after 3) (line_after 4)
@@ -129,7 +130,7 @@ third_poll = gives 9000 0 3 (end_frame A) end_left [] 1 1 1 1 (line_after 3) (li
 fourth_poll : FindsIt three_plan 0 1 2 12000 (line_after 4) (line_after 5)
 unfolding log checksum addresses header_front internet_header link_header udp_header datagram unnumbered cutting fragments_at
 fourth_poll = gives 12000 1 4 (short_frame 1 1 4 A) [] [] 1 2 1 1 (line_after 4) (line_after 5) refl refl refl
-    (starts 1 1 2 (short_frame 1 1 4 A) refl refl) (grind arith) (by_three _ refl refl refl)
+    (starts 1 1 2 (short_frame 1 1 4 A) (refl, untold _ _ refl) refl) (grind arith) (by_three _ refl refl refl)
     refl refl refl refl refl refl refl (grind arith)
 
 pub finding : ArePolls (FindsIt three_plan 0 1 2) (6000 ∷ 9000 ∷ 12000 ∷ []) (line_after 2) (line_after 5)

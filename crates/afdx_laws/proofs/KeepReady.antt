@@ -1,5 +1,5 @@
 -- An emitter stays ready.
-use Rattle.afdx_laws.proofs.RunNames.{ℕ, ◌≡◌, ◌<◌, List, length, arith, ◌∙◌, sym, subst, All, Plan, LinkState, link_at, IsSameLink, turns_each, IsQueued, AreQueued, Tx, taken_in, IsFreshTx, IsRun, IsTurnAt, IsPlanned, IsReadyFor, IsReady, KeptReady, ClosesTx, Publishes, ClosedLinks, closes_links}
+use Rattle.afdx_laws.proofs.RunNames.{ℕ, ◌≡◌, ◌<◌, List, length, arith, ◌∙◌, sym, subst, All, Plan, LinkState, link_at, IsSameLink, turns_each, IsQueued, AreQueued, Tx, taken_in, IsFreshTx, IsRun, IsTurnAt, IsPlanned, IsReadyFor, IsReady, KeptReady, ClosesTx, Publishes, ClosedLinks, closes_links, HearsTx, PortView, hears_links}
 
 by_own : (plan : Plan) (tx : Tx) → tx.plan ≡ plan → IsReadyFor plan tx → IsReady tx
 by_own plan tx of ready = grind arith
@@ -38,5 +38,17 @@ closed old new vl sub total ready c =
 published : (old new : Tx) → IsReady old → Publishes old new → IsReady new
 published old new ready p = subst IsReady (sym p.same) (grind arith)
 
+told : (old new : Tx) (port : PortView) → IsReady old → HearsTx old port new → IsReady new
+told old new port ready h =
+    let links : ClosedLinks old.links new.links = hears_links old port new h in
+    by_own old.plan new (grind arith) (record {
+      count = links.count ∙ ready.count;
+      links = grind arith;
+      allowed = λ k s lt slt.
+          subst (All (IsQueued old.plan k s))
+          (sym (grind arith))
+          (ready.allowed k s lt slt);
+    })
+
 pub kept_ready : KeptReady
-kept_ready = record { opened = opened; polled = polled; closed = closed; published = published }
+kept_ready = record { opened = opened; polled = polled; closed = closed; published = published; told = told }

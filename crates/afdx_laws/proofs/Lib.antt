@@ -20,6 +20,7 @@ pub mod PollStep
 pub mod Ran
 pub mod NextRun
 pub mod KeepReady
+pub mod HeardRun
 pub mod WorkedRuns
 pub mod Groups
 pub mod GroupPolls
@@ -28,6 +29,7 @@ pub mod PiecesInRun
 pub mod MessageRun
 pub mod EmitterRuns
 pub mod NeededRuns
+pub mod HeardRows
 pub mod QuietPolls
 pub mod KeptPeriods
 pub mod GroupWait

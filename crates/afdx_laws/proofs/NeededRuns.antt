@@ -1,9 +1,10 @@
 -- The cases in which a premise of the law of a message in a run fails, by computation.
-use Rattle.afdx_laws.proofs.RunNames.{nil_isnt_cons, blanked, cons_parts, true, Served, sym, append-nil, drop, IsQueued, All, ◌≡◌, ℕ, zero, suc, ◌<◌, [], ◌∷◌, ◌++◌, length, refl, arith, inr, ⊎_elim, below_one, false≢true, A, cutting, fragments_at, addresses, header_front, internet_header, link_header, udp_header, datagram, unnumbered, entry, Lines, log, Nothing, Released, Drains, Held, Passes, held_at, stream_at, EmitterPolls, AreTimely, AreFinding, HasPlace, IsAccepted, fragments_of, seen_of, replicate, after_take, ReceiverView, looked, IsTied, may_release, pace_in, sub_stream, IsPrefixOf, taken_by, IsSameSub, moves_of, same_sub_here, AreReleasedBy, other_frame, other_line, tight_link, short_port, byte_plan, short_sent, bytes_accepted, short_frame, no_line, byte_line, failed_line, NeedsItsPremises, fresh, sub_of}
+use Rattle.afdx_laws.proofs.RunNames.{nil_isnt_cons, None, blanked, cons_parts, true, Served, sym, append-nil, drop, IsQueued, All, ◌≡◌, ℕ, zero, suc, ◌<◌, [], ◌∷◌, ◌++◌, length, refl, arith, inr, ⊎_elim, below_one, false≢true, A, cutting, fragments_at, addresses, header_front, internet_header, link_header, udp_header, datagram, unnumbered, entry, Lines, log, Nothing, Released, Drains, Held, Passes, held_at, stream_at, EmitterPolls, AreTimely, AreFinding, HasPlace, IsAccepted, fragments_of, seen_of, replicate, after_take, ReceiverView, looked, IsTied, may_release, pace_in, sub_stream, IsPrefixOf, taken_by, IsSameSub, moves_of, same_sub_here, AreReleasedBy, other_frame, other_line, tight_link, short_port, byte_plan, short_sent, bytes_accepted, short_frame, no_line, byte_line, failed_line, NeedsItsPremises, fresh, sub_of}
 use Rattle.afdx_frame.specs.Checksum.{checksum}
 use Rattle.afdx_laws.proofs.EmitterRuns.{polls_by}
 use Rattle.afdx_laws.proofs.WorkedRuns.{releases, has_room, not_released}
 use Rattle.afdx_laws.proofs.Ran.{seen_append}
+use Rattle.afdx_laws.proofs.Used.{untold}
 
 pub one_is : IsAccepted byte_plan (bytes_accepted 1) 0 0 [] (short_sent 0) []
 one_is = grind arith
@@ -33,13 +34,13 @@ held queue = sub_of tight_link 0 (short_port 0) [] queue
 -- a poll of an emitter that finds no message ready
 finds_none : (queue : ReceiverView) (lines : Lines) → All (IsQueued byte_plan 0 0) (taken_by (held queue))
     → may_release 1000 tight_link (pace_in tight_link (log lines)) lines ≡ true
-    → IsTied (held queue) (sub_stream 0 (stream_at byte_plan 0 lines)) → EmitterPolls byte_plan 1000 lines lines
-finds_none queue lines queued due tied = polls_by 1000 byte_plan tight_link (held queue ∷ []) (held (looked queue) ∷ []) lines lines Nothing
+    → IsTied (held queue) (sub_stream 0 (stream_at byte_plan 0 lines)) → queue.heard ≡ [] → EmitterPolls byte_plan 1000 lines lines
+finds_none queue lines queued due tied none = polls_by 1000 byte_plan tight_link (held queue ∷ []) (held (looked queue) ∷ []) lines lines Nothing
     (grind arith) (grind arith)
     refl same (below_one _ tied) (grind arith, refl)
   where
     passes : Passes (held queue) (held (looked queue))
-    passes = (grind arith)
+    passes = record { whole = refl; nothing = (refl, untold queue None none); same = refl }
 
     same : (s : ℕ) → IsSameSub (held_at (held queue ∷ []) s) (held_at (held (looked queue) ∷ []) s)
     same zero = grind (arith, moves_of)
@@ -78,7 +79,7 @@ misses_late now bound past = not_released byte_plan 0 0 bound (short_sent 0 ∷ 
 finds_other : EmitterPolls byte_plan 1000 other_line other_line
 unfolding log checksum addresses header_front internet_header link_header udp_header datagram unnumbered cutting fragments_at
 finds_other = finds_none (after_take fresh (0, 2 ∷ [])) other_line
-    (grind arith) refl refl
+    (grind arith) refl refl refl
 
 pub other_bytes : blanked (other_frame A) ≡ blanked (short_frame 0 0 0 A) → ⊥
 unfolding checksum addresses header_front internet_header link_header udp_header datagram unnumbered
@@ -110,7 +111,7 @@ needs_its_premises = record {
     comes = in_time;
     missed = misses_second 1000 1000;
   };
-  poll = finds_none fresh no_line (grind arith) refl refl;
+  poll = finds_none fresh no_line (grind arith) refl refl refl;
   unfound = grind (arith, one_is, none_before no_line, in_time, misses 0 no_line (omega arith));
   unlike = record {
     accepted = one_is;

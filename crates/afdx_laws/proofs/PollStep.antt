@@ -129,7 +129,7 @@ abbrev pub drain_view : Plan → Accepted → ℕ → Lines → TurnView
 drain_view plan accepted j lines = accepted_view plan.end_system (link_plan_at plan.links j) (accepted j) (log lines)
 
 -- the turns of a poll of an emitter
-emitter_turns : (now : ℕ) (plan : Plan) (lines after : Lines) (p : EmitterPolls plan now lines after)
+pub emitter_turns : (now : ℕ) (plan : Plan) (lines after : Lines) (p : EmitterPolls plan now lines after)
     → AreTurns (IsSeen now plan (emitter_view p.old p.new) (IsTurnAt now p.old.links p.new.links)) 0 (length plan.links) lines after
 emitter_turns now plan lines after p =
     let ready : IsReadyFor plan p.old = grind arith in

@@ -1,12 +1,13 @@
 -- The names of other crates, and of this one's definitions, that the proofs here use.
 pub use Rattle.std.proofs.Common.{Bool, List, None, Option, Some, [], ap, arith, cond, drop, false, get_or, inl, inr, length, map, nat_eq, nat_le, nat_lt, refl, subst, suc, sym, take, true, zero, ℕ, ⊎_elim, ◌&&◌, ◌*◌, ◌%◌, ◌++◌, ◌+◌, ◌-◌, ◌<◌, ◌^◌, ◌||◌, ◌∙◌, ◌∷◌, ◌≡◌, ◌≢◌, ◌≤◌, ◌⊎◌}
-pub use Rattle.std.proofs.lemmas.Bool.{and_from, both_ways, cases_Bool, cases_eq, cases_lt, eq-eqb, eqb-true, false≢true, le-leb, le-ltb, lt-ltb, ne_eqb}
+pub use Rattle.std.proofs.lemmas.Bool.{and_from, and_parts, or_cases, or_left, or_right, both_ways, cases_Bool, cases_eq, cases_lt, eq-eqb, eqb-true, false≢true, le-leb, le-ltb, lt-ltb, ne_eqb}
 pub use Rattle.std.proofs.lemmas.Bool.Decides.{nat_tests}
 pub use Rattle.std.proofs.lemmas.List.{append-nil, append_assoc, length-append, length-drop, length-map, map-append, take-append-drop, get_or_default, append_cancel_left}
 pub use Rattle.std.proofs.lemmas.List.Elements.{All-cons, All-drop, All-head, All-nil, All-tail, All-weaker, filter-append, All-filter, All-map, filter_passes, All-contains_itself, All-push, All-append}
 pub use Rattle.std.proofs.lemmas.Nat.{le-div, mul-le}
 pub use Rattle.std.proofs.lemmas.Result.{on_ok_weaker}
-pub use Rattle.std.specs.Prelude.{All, Contains, slice_index, replicate, ◌/◌, filter, not, unwrap_or, IfSome, is_some, sum_by, max, min}
+pub use Rattle.std.specs.Prelude.{All, Contains, Err, IsErr, Ok, OnErr, OnOk, Result, slice_index, replicate, ◌/◌, filter, not, unwrap_or, IfSome, is_some, sum_by, max, min}
+pub use native.Mathlib.Decide.{dec_le}
 pub use native.Mathlib.Nat.{mul-suc, suc-mul}
 pub use Rattle.afdx_plan.specs.Config.{IsPlan, Plan, link_plan_at, link_place, port_plan_at}
 pub use Rattle.afdx_plan.specs.Plan.{bag_micros, bag_ms, room_of, step_of}
@@ -21,7 +22,7 @@ unfoldable pub use Rattle.afdx_frame.specs.Frame.{addresses, datagram, header_fr
 pub use Rattle.afdx_frame.specs.Header.{link_in, number_in, sub_in}
 pub use Rattle.afdx_frame.specs.declared.net.Net.TheVariants.{A}
 pub use Rattle.redundant_mux.proofs.MirroredLines.{stood_before}
-pub use Rattle.redundant_mux.specs.Lines.{Entry, entry, BothEndure, Lines, any_up, logged_for}
+pub use Rattle.redundant_mux.specs.Lines.{Entry, entry, BothEndure, Lines, any_up, is_alive, logged_for}
 unfoldable pub use Rattle.redundant_mux.specs.Lines.{log}
 pub use Rattle.vl_shaper.specs.Pace.{Choice, IsChosen, IsLater, is_due, next_turn, turn_of, users_among}
 pub use Rattle.vl_shaper.specs.Polls.{AreServed, HasAtPolls, IsOfUser, IsServed, Poll, ServeUsers, is_of, released_by, last_after}
@@ -30,9 +31,9 @@ pub use Rattle.afdx_legal.specs.Accepted.{AreAllowed, AreQueued, IsAllowed, IsQu
 pub use Rattle.afdx_legal.specs.Legal.{Accepted}
 pub use Rattle.afdx_legal.specs.Streams.{IsPrefixOf, latest, link_stream, stamp_of, sub_stream, told, more_in, unnumbered_fragments}
 pub use Rattle.vl_link.proofs.TurnLaws.{turns_each, turns_endure, turns_seen, turn_endures}
-pub use Rattle.vl_link.specs.Links.{Held, IsSameLink, LinkState, Passes, held_at, held_view, link_at, pace_of, taken_by, AreSameSubs, Serves, GivesFrame, IsSameSub, sent_by, message_fragments, GoesOn, Starts, sent_of}
+pub use Rattle.vl_link.specs.Links.{Asks, Held, IsSameLink, LinkState, Passes, held_at, held_view, link_at, pace_of, taken_by, AreSameSubs, Serves, GivesFrame, IsSameSub, sent_by, message_fragments, GoesOn, Starts, sent_of}
 pub use Rattle.vl_link.specs.Kept.{begun_after, begun_by, none_begun, IsTied}
-pub use Rattle.vl_link.specs.Turn.{AreTurns, Turn, TurnView, may_release}
+pub use Rattle.vl_link.specs.Turn.{AreTurns, NoneHas, Turn, TurnView, may_release}
 pub use Rattle.vl_link.specs.declared.link.Served.{Served}
 pub use Rattle.vl_link.specs.declared.link.Served.TheVariants.{Lost, Nothing, Released}
 pub use Rattle.afdx_tx.specs.Run.{Drains, DrainsAt, IsDrained, accepted_in, accepted_view, pace_in, IsRun, IsTurnAt}
@@ -43,13 +44,22 @@ pub use Rattle.afdx_laws.proofs.ListLemmas.{all_back, all_front, below_one, cons
 pub use Rattle.afdx_laws.proofs.NextFragment.{wait_at}
 pub use Rattle.afdx_laws.specs.MessageInRun.{ApartAreTimely, AreFinding, AreTimely, ComesIn, FindsIt, HasPlace, IsAccepted, MessageInRun, fragments_of, seen_of, AreReleasedBy}
 pub use Rattle.afdx_laws.specs.GroupInRun.{FindsGroup, GroupInRun, HasTraffic, IsGroupPoll, IsGroupRun, is_in}
+pub use Rattle.afdx_laws.specs.HeardRow.{IsTurnOf, NeedsToBeTold, ReleasesTold, one_sent, told_one}
+pub use Rattle.afdx_laws.specs.HeardInRun.{FindsSent, HasAs, HeardIsFound, IsItsTurn, IsNextIn, IsSentNext, ReleasesFirst, ReleasesHeard}
 pub use Rattle.afdx_laws.specs.Runs.{ArePolls, AreRuns, ComeWithin, ComesBy, DrainPolls, EmitterPolls, IsPlanned, IsReady, IsReadyFor, KeptReady, NextInRun, latest_of, next_wait}
 pub use Rattle.afdx_plan.specs.declared.link_plan.Networks.TheVariants.{Both}
-pub use Rattle.vl_link.specs.Seen.{Finds, taken_of, Seen, receiving, gathered}
+pub use Rattle.vl_link.specs.Seen.{Finds, FindsNothing, Heeds, IsReceiving, ports_of, queue_of, taken_of, Seen, receiving, gathered}
 pub use Rattle.vl_link.proofs.SubInStep.{moves_of, gave_same, same_sub_here, same_sub_on}
 pub use Rattle.afdx_laws.specs.WorkedRun.{lines_by, short_port, short_sent, short_frame, front_entry, three_link, three_plan, three_accepted, end_frame, line_after, long_sub, short_sub, subs_of, tx_of, ComesInTurn, ThirdReleased, WaitsItsTurn, other_frame, other_line, tight_link, byte_plan, bytes_accepted, no_line, byte_line, failed_line, NeedsItsPremises, fresh, sub_of, stray_frame, stray_line, both_at, lost_line, NeedsARun, small_link, small_plan, message_accepted, front_line, both_lines, ComesInRun, tight_plan, tight_sent, tight_accepted, tight_frame, tight_line, TightReleased, MeetsTheWait}
 pub use Rattle.afdx_tx.specs.Calls.{ClosesTx, Publishes}
-pub use Rattle.afdx_tx.proofs.ClosedEmitter.{ClosedLinks, closes_links}
+pub use Rattle.afdx_tx.proofs.ClosedEmitter.{ClosedLinks, closes_links, hears_links, hears_within}
+pub use Rattle.afdx_tx.specs.Gathering.{held_for}
+pub use Rattle.afdx_tx.proofs.PortLink.{link_within}
+pub use Rattle.afdx_plan.specs.declared.link_plan.Networks.{Networks}
+pub use Rattle.afdx_tx.specs.Hearing.{HearsTx, place_of}
+pub use Rattle.afdx_tx.specs.Ports.{Accepts, BelongsTo, IsPortOfTx, PortView}
+pub use Rattle.vl_link.specs.Calls.{ChangesQueue, ChangesSub, Hears}
+pub use Rattle.subvl_queue.proofs.Senders.{has_sent, hears_last, hears_sent, last_is}
 pub use Rattle.std.proofs.lemmas.List.Filters.{sum_by-filter_both}
 pub use Rattle.std.proofs.lemmas.List.Sums.{sum_by-cons, sum_by-le, sum_by-take-drop, sum_by_push, sum_by-append}
 pub use Rattle.afdx_plan.specs.declared.port_plan.PortId.{PortId}
@@ -60,7 +70,7 @@ pub use Rattle.plan_analysis.proofs.Busy.{all_of_map}
 pub use Rattle.plan_analysis.proofs.Waits.{waits_in_group}
 pub use Rattle.afdx_laws.specs.TrafficInRun.{Arrival, IsLoneWait, AreApart, AreDue, KeepPeriod, times_in, is_from, is_before, KeepPeriods, TrafficInRun, AreFindingAll, accepted_by, messages_in}
 pub use Rattle.afdx_tx.proofs.OwnLengths.{own_link}
-pub use Rattle.subvl_queue.specs.Views.{after_take, ReceiverView, looked}
+pub use Rattle.subvl_queue.specs.Views.{after_take, Brought, brought_by, heard_from, HasAt, IsLast, IsPlaced, ReceiverView, SenderView, looked}
 pub use Rattle.vl_link.proofs.MessageEnds.{not_begun}
 pub use Rattle.afdx_laws.specs.NextFragment.{longest_wait}
 pub use Rattle.vl_shaper.proofs.Users.{passed, passed_lt, passed_more, users_le, users_most}

@@ -1,5 +1,5 @@
 -- The sub-VLs of a link that have a port, and that no other one sends.
-use Rattle.afdx_laws.proofs.RunNames.{nil_isnt_cons, ℕ, ◌≡◌, ◌<◌, List, [], ◌∷◌, ◌++◌, ◌≤◌, true, length, length-append, length-map, arith, refl, ap, ◌∙◌, sym, ⊎_elim, All, All-head, nat_tests, Plan, IsPlan, link_plan_at, Sent, IsQueued, Tx, IsReady, IsReadyFor, Held, taken_by, LinkPlan, Entry, told, Owes, Any-from_list_any, list_any_at, IsTied, GivesFrame, GoesOn, Starts, sent_of, unnumbered_fragments, Finds, Seen, receiving, gathered, taken_of, is_on, has_port}
+use Rattle.afdx_laws.proofs.RunNames.{nil_isnt_cons, ℕ, ◌≡◌, ◌<◌, List, [], ◌∷◌, ◌++◌, ◌≤◌, true, length, length-append, length-map, arith, refl, ap, ◌∙◌, sym, ⊎_elim, All, All-head, nat_tests, Plan, IsPlan, link_plan_at, Sent, IsQueued, Tx, IsReady, IsReadyFor, Held, taken_by, LinkPlan, Entry, told, Owes, Any-from_list_any, list_any_at, IsTied, GivesFrame, GoesOn, Starts, ReceiverView, Brought, Contains, Option, Heeds, subst, sent_of, unnumbered_fragments, Finds, Seen, receiving, gathered, taken_of, is_on, has_port}
 
 -- a sub-VL with a port is one of its link
 pub has_port_below : (plan : Plan) (k s : ℕ) → IsPlan plan → k < length plan.links
@@ -22,8 +22,18 @@ back_empty : {X : Type 0} (xs ys : List X) → [] ≡ xs ++ ys → ys ≡ []
 back_empty [] ys is = sym is
 back_empty (x ∷ xs) ys is = absurd (nil_isnt_cons is)
 
+-- A receiver that was told of nothing may find anything.
+pub untold : (r : ReceiverView) (hit : Option (ℕ × List ℕ)) → r.heard ≡ [] → Heeds r hit
+untold r hit none = record {
+  heard = λ item has. absurd (no_sender has.0 has.1);
+  alone = λ _ b inside i lt. absurd (no_sender b inside);
+}
+  where
+    no_sender : (b : Brought) → Contains r.heard b → ⊥
+    no_sender b inside = let there = subst (λ (l : List Brought). Contains l b) none inside in let lt = there.1 in absurd (omega arith)
+
 finds_some : (old new : Seen) (message : ℕ × List ℕ) → Finds old message new → 1 ≤ length (taken_of new)
-finds_some (receiving old) new message finds = grind (arith, ap taken_of finds, length-append old.taken (message ∷ []))
+finds_some (receiving old) new message finds = grind (arith, ap taken_of finds.0, length-append old.taken (message ∷ []))
 finds_some (gathered old) new message finds = grind (arith, ap taken_of finds.2, length-append old.taken (message ∷ []))
 
 -- a sub-VL that gives a frame has taken a message

@@ -13,6 +13,8 @@ pub mod NextFragment
 pub mod Runs
 pub mod WorkedRun
 pub mod MessageInRun
+pub mod HeardInRun
+pub mod HeardRow
 pub mod TrafficInRun
 pub mod GroupInRun
 pub mod TrafficRow

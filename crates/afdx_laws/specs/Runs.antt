@@ -9,6 +9,8 @@ use Rattle.vl_link.specs.Links.{LinkState, link_at}
 use Rattle.afdx_tx.specs.Emitter.{Tx, taken_in, IsFreshTx}
 use Rattle.afdx_tx.specs.Run.{IsRun, IsDrained}
 use Rattle.afdx_tx.specs.Calls.{ClosesTx, Publishes}
+use Rattle.afdx_tx.specs.Hearing.{HearsTx}
+use Rattle.afdx_tx.specs.Ports.{PortView}
 use Rattle.afdx_frame.specs.Header.{sub_in}
 use Rattle.afdx_legal.specs.Streams.{more_in}
 use Rattle.afdx_tx.specs.DrainEnds.{stream_at}
@@ -30,13 +32,14 @@ pub record IsReadyFor (plan : Plan) (tx : Tx) : Type 0 where
 abbrev pub IsReady : Tx → Type 0
 IsReady tx = IsReadyFor tx.plan tx
 
--- `open_tx` makes a ready emitter, and polls, closes and publishing leave it one.
+-- `open_tx` makes a ready emitter, and polls, closes, publishing and `hear` leave it one.
 pub record KeptReady : Type 0 where
   pub opened : (config : Plan) (tx : Tx) → IsFreshTx config tx → IsReady tx
   pub polled : (now : ℕ) (old new : Tx) → IsReady old → new.plan ≡ old.plan
       → IsRun now old.links new.links old.lines new.lines → AreQueued new.plan (taken_in new.links) → IsReady new
   pub closed : (old new : Tx) (vl sub total : ℕ) → IsReady old → ClosesTx old vl sub total new → IsReady new
   pub published : (old new : Tx) → IsReady old → Publishes old new → IsReady new
+  pub told : (old new : Tx) (port : PortView) → IsReady old → HearsTx old port new → IsReady new
 
 -- A poll of a ready emitter of a plan, by the frames transmitted before and after it. The messages that it has taken
 -- after the poll are messages that its ports may send, too.

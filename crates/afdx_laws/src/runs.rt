@@ -1,5 +1,7 @@
 //! Laws over runs of polls. The functions are empty: each contract is a law.
 ghost use Rattle.afdx_laws.specs.MessageInRun.{MessageInRun, ApartAreTimely};
+ghost use Rattle.afdx_laws.specs.HeardInRun.{ReleasesHeard, HeardIsFound};
+ghost use Rattle.afdx_laws.specs.HeardRow.{ReleasesTold, NeedsToBeTold};
 ghost use Rattle.afdx_laws.specs.GroupInRun.{GroupInRun};
 ghost use Rattle.afdx_laws.specs.GroupRow.{NeedsItsMates, TakesItsGroupWait};
 ghost use Rattle.afdx_laws.specs.NeverFull.{NeverFull, NeverFullInGroup};
@@ -32,6 +34,27 @@ pub fn next_in_run()
     ensures needed { NeedsARun }
 {}
 
+/// A message that was sent is found by the poll that comes to it.
+///
+/// `Emitter::hear` tells the emitter of the messages that a port has sent. If the next message of a sub-VL is among them
+/// (`IsNextIn`), and the sub-VL has begun none, a poll at its turn releases its first fragment (`released`): the link is
+/// due, and the sub-VL is the first that is asked (`IsItsTurn`). Any other poll that comes to the sub-VL finds it too
+/// (`found`), which is the premise `FindsIt` of the waits. If a queue has one port, its next message is the one after
+/// those that were taken.
+///
+/// `polling::finds_sent` is such a send, with such a poll. Without `hear`, the contracts of two ends on two threads
+/// can't say which of them came first.
+pub fn heard_in_run()
+    ensures released { ReleasesHeard }
+    ensures found { HeardIsFound }
+
+    // a message of one byte, released by the first poll
+    ensures worked { ReleasesTold }
+
+    // an emitter that was told of nothing
+    ensures needed { NeedsToBeTold }
+{}
+
 /// An accepted message is wholly released within the longest wait of its port, whatever the other ports and the other
 /// sub-VLs send. `plan_analysis` computes that wait from the plan and the lateness of polls (`worst_wait`).
 ///
@@ -43,7 +66,8 @@ pub fn next_in_run()
 ///   wait is over (`AreTimely`). Polls at most the lateness and a microsecond apart meet this (`apart`). So do polls at
 ///   every multiple of a millisecond, with a lateness of 0.
 /// - A poll of the emitter that polls the queue of the sub-VL finds a message there until this one is wholly released
-///   (`FindsIt`): no sender stops between accepting a message and queueing it. A drain needs no such premise.
+///   (`FindsIt`): no sender stops between accepting a message and queueing it. A drain needs no such premise, and an
+///   emitter that was told of the messages meets it (`heard_in_run`).
 /// - Each message accepted before this one by at least the queue's capacity had its first fragment released
 ///   (`HasPlace`): the queue never exceeds its capacity.
 /// - The fragments sent so far begin the fragments of the accepted list (`legal` of the calls), and a network that

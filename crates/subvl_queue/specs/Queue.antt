@@ -110,7 +110,7 @@ module _ {T : Type 0} where
   abbrev pub asks_of : View T → ℕ
   asks_of v = v.asks
 
-  -- how often a seat gave a place or a slot request back while seat j had made `asks` slot requests
+  -- the number of places and slot requests that a seat gave back while seat j had made `asks` slot requests
   abbrev pub gave_back : (j asks : ℕ) → View T → ℕ
   gave_back j asks v = total (λ e. cond (eqb (slice_index_or e j 0) asks) 1 0) v.asks_then
 
@@ -189,7 +189,7 @@ module _ {T : Type 0} where
       → v.load + 1 + freed + gave_back j v.asks v
       ≤ length log + total in_hand views + rest_of v.stage + total (gave_back j v.asks) views
 
-  -- what the seats' last steps found is true
+  -- the answers that the seats' last steps gave are true
   pub record IsHonest (slots freed : ℕ) (closed : Bool) (log : List (ℕ × T)) (cells : ℕ → Cell)
       (seat : ℕ → ℕ) (views : List (View T)) : Type 0 where
     pub shut : AreShut closed views
