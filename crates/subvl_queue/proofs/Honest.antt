@@ -208,6 +208,29 @@ module _ {T : Type 0} where
     loads = loads_after freed freed' log log' views id v w old.loads t.turned t.own t.others;
   }
 
+  -- A step by a seat that keeps what it heard, and neither closes the queue nor checks whether it is closed.
+  steps : (slots freed freed' : ℕ) (closed : Bool) (log log' : List (ℕ × T)) (cells cells' : ℕ → Cell) (seat : ℕ → ℕ) (views : List (View T))
+      (id : ℕ) (v w : View T) → IsHonest slots freed closed log cells seat views → Turned views id v w
+      → (w.glances ≡ v.glances) × (w.glances_then ≡ v.glances_then) × (w.shut ≡ v.shut) × (w.heard ≡ v.heard) → freed ≤ freed' → Grows log log'
+      → MissesNone slots freed' log' cells' seat (set views id w)
+      → ((p : ℕ) → freed' ≤ p → IsOut (cells (p % slots)) p → IsOut (cells' (p % slots)) p)
+      → (w.role ≡ Sender → 0 < w.asks → w.load + 1 + freed' + hand_of v.stage + gave_back id w.asks v
+      ≤ length log' + total in_hand views + hand_of w.stage + rest_of w.stage + total (gave_back id w.asks) views)
+      → ((j : ℕ) (d : View T) → j ≢ id → get_elem? views j ≡ some d → freed' + length log + hand_of v.stage + gave_back j d.asks v
+      ≤ freed + length log' + hand_of w.stage + gave_back j d.asks w)
+      → IsHonest slots freed' closed log' cells' seat (set views id w)
+  steps slots freed freed' closed log log' cells cells' seat views id v w old t same more grows misses outs own others =
+      honest_after slots freed freed' closed closed log log' cells cells' seat views id v w old
+      (saw_open_after closed views id v w old.saw_open t.at same.1 (λ o. (sym same.2 ∙ o, same.0)) t.role) misses
+      (heard_after slots freed freed' log log' cells cells' views id v w old.heard t.at same.3 more grows outs)
+      record {
+        turned = t;
+        closes = λ e. e;
+        shut = λ e. old.shut id v t.at (sym same.2 ∙ e);
+        own = own;
+        others = others;
+      }
+
   -- What a step keeps that gives nothing back, moves no place and is no look and no slot request.
   pub record Calm (v w : View T) : Type 0 where
     pub role : w.role ≡ v.role
@@ -248,16 +271,10 @@ module _ {T : Type 0} where
       let t : Turned views id v w = record { at = at; role = refl; looks = λ _. omega arith; ready = inl refl } in
       let all = member_le (gave_back id (v.asks + 1)) views id v at in
       let none' : hand_of v.stage ≡ 0 = ap hand_of was in
-      honest_after slots freed freed closed closed log log cells cells seat views id v w old (saw_open_after closed views id v w old.saw_open at refl (λ o. (o, refl)) refl)
+      steps slots freed freed closed log log cells cells seat views id v w old t (refl, refl, refl, refl) (omega arith) (grows_none log)
       (misses_after slots freed log log cells cells seat views id v w old.misses t refl refl (λ e. e) (λ x _ e. e))
-      (heard_after slots freed freed log log cells cells views id v w old.heard at refl (omega arith) (grows_none log) (λ p le o. o))
-      record {
-        turned = t;
-        closes = λ e. e;
-        shut = old.shut id v at;
-        own = λ _ _. omega arith;
-        others = λ j d _ _. omega arith;
-      }
+      (λ p le o. o)
+      (λ _ _. omega arith) (λ j d _ _. omega arith)
 
   -- A slot request is given back.
   pub undoes_rightly : (slots freed : ℕ) (closed : Bool) (log : List (ℕ × T)) (cells : ℕ → Cell) (seat : ℕ → ℕ) (views : List (View T))
@@ -267,16 +284,10 @@ module _ {T : Type 0} where
       let w = undone v (v.asks_then ++ map asks_of views ∷ []) in
       let t : Turned views id v w = record { at = at; role = refl; looks = λ _. omega arith; ready = inl refl } in
       let none' = in_hand_rests v.stage hand in
-      honest_after slots freed freed closed closed log log cells cells seat views id v w old (saw_open_after closed views id v w old.saw_open at refl (λ o. (o, refl)) refl)
+      steps slots freed freed closed log log cells cells seat views id v w old t (refl, refl, refl, refl) (omega arith) (grows_none log)
       (misses_after slots freed log log cells cells seat views id v w old.misses t refl refl (λ e. e) (λ x _ e. e))
-      (heard_after slots freed freed log log cells cells views id v w old.heard at refl (omega arith) (grows_none log) (λ p le o. o))
-      record {
-        turned = t;
-        closes = λ e. e;
-        shut = old.shut id v at;
-        own = own_load freed log log views id v w old.loads at refl refl refl (omega arith);
-        others = λ j d _ there. let more = gave_back_more v w views j d refl there in omega arith;
-      }
+      (λ p le o. o)
+      (own_load freed log log views id v w old.loads at refl refl refl (omega arith)) (λ j d _ there. let more = gave_back_more v w views j d refl there in omega arith)
 
   -- A place is drawn.
   pub draws_rightly : (slots freed : ℕ) (closed : Bool) (log : List (ℕ × T)) (cells : ℕ → Cell) (seat : ℕ → ℕ) (views : List (View T))
@@ -292,18 +303,11 @@ module _ {T : Type 0} where
       let same : put cells i (length log, writing id) (freed % slots) ≡ (freed, full) → cells (freed % slots) ≡ (freed, full) =
       at_put cells i (length log, writing id) (λ q c. c ≡ (freed, full) → cells q ≡ (freed, full)) (freed % slots)
       (grind arith) (λ _ e. e) in
-      honest_after slots freed freed closed closed log (log ++ x ∷ []) cells (put cells i (length log, writing id)) seat views id v w old (saw_open_after closed views id v w old.saw_open at refl (λ o. (o, refl)) refl)
+      steps slots freed freed closed log (log ++ x ∷ []) cells (put cells i (length log, writing id)) seat views id v w old t (refl, refl, refl, refl) (omega arith) (grows_one log x)
       (misses_after slots freed log (log ++ x ∷ []) cells (put cells i (length log, writing id)) seat views id v w old.misses t refl refl same
       (λ y is e. at_before log (x ∷ []) freed y (below (same is)) e))
-      (heard_after slots freed freed log (log ++ x ∷ []) cells (put cells i (length log, writing id)) views id v w old.heard at refl (omega arith) (grows_one log x)
-      (outs_put slots freed i cells (length log, writing id) (λ q o le. absurd (free_not_out (cells i) q unused o))))
-      record {
-        turned = t;
-        closes = λ e. e;
-        shut = old.shut id v at;
-        own = own_load freed log (log ++ x ∷ []) views id v w old.loads at refl refl refl (omega arith);
-        others = λ j d _ _. omega arith;
-      }
+      (outs_put slots freed i cells (length log, writing id) (λ q o le. absurd (free_not_out (cells i) q unused o)))
+      (own_load freed log (log ++ x ∷ []) views id v w old.loads at refl refl refl (omega arith)) (λ j d _ _. omega arith)
 
   -- A place is made ready.
   pub publishes_rightly : (slots freed : ℕ) (closed : Bool) (log : List (ℕ × T)) (cells : ℕ → Cell) (seat : ℕ → ℕ) (views : List (View T))
@@ -315,17 +319,10 @@ module _ {T : Type 0} where
       let t : Turned views id v w = record { at = at; role = refl; looks = λ _. omega arith; ready = inr (apart, refl) } in
       let hand : hand_of v.stage ≡ 0 = ap hand_of was in
       let none' : rest_of v.stage ≡ 0 = ap rest_of was in
-      honest_after slots freed freed closed closed log log cells (put cells i (p, full)) seat views id v w old (saw_open_after closed views id v w old.saw_open at refl (λ o. (o, refl)) refl)
+      steps slots freed freed closed log log cells (put cells i (p, full)) seat views id v w old t (refl, refl, refl, refl) (omega arith) (grows_none log)
       (misses_ready slots freed log cells seat views id i p v w y old.misses at apart refl slot at_p mine)
-      (heard_after slots freed freed log log cells (put cells i (p, full)) views id v w old.heard at refl (omega arith) (grows_none log)
-      (outs_put slots freed i cells (p, full) (λ q o le. absurd (writing_not_out (cells i) p id q held o))))
-      record {
-        turned = t;
-        closes = λ e. e;
-        shut = old.shut id v at;
-        own = own_load freed log log views id v w old.loads at refl refl refl (omega arith);
-        others = λ j d _ _. omega arith;
-      }
+      (outs_put slots freed i cells (p, full) (λ q o le. absurd (writing_not_out (cells i) p id q held o)))
+      (own_load freed log log views id v w old.loads at refl refl refl (omega arith)) (λ j d _ _. omega arith)
 
   -- A look finds the next place ready.
   pub finds_rightly : (slots freed : ℕ) (closed : Bool) (log : List (ℕ × T)) (cells : ℕ → Cell) (seat : ℕ → ℕ) (views : List (View T))
@@ -336,17 +333,10 @@ module _ {T : Type 0} where
       let w = holding v p x in
       let t : Turned views id v w = record { at = at; role = refl; looks = λ _. omega arith; ready = inl refl } in
       let hand : hand_of v.stage ≡ 0 = ap hand_of was in
-      honest_after slots freed freed closed closed log log cells (put cells i (p, reading id)) seat views id v w old (saw_open_after closed views id v w old.saw_open at refl (λ o. (o, refl)) refl)
+      steps slots freed freed closed log log cells (put cells i (p, reading id)) seat views id v w old t (refl, refl, refl, refl) (omega arith) (grows_none log)
       (misses_found slots freed log (put cells i (p, reading id)) seat views id w zeroth refl)
-      (heard_after slots freed freed log log cells (put cells i (p, reading id)) views id v w old.heard at refl (omega arith) (grows_none log)
-      (outs_put slots freed i cells (p, reading id) (λ q o le. full_out (cells i) p id q ready zeroth o)))
-      record {
-        turned = t;
-        closes = λ e. e;
-        shut = old.shut id v at;
-        own = λ r _. absurd (cc);
-        others = λ j d _ _. omega arith;
-      }
+      (outs_put slots freed i cells (p, reading id) (λ q o le. full_out (cells i) p id q ready zeroth o))
+      (λ r _. absurd (cc)) (λ j d _ _. omega arith)
 
   -- A look finds the next place not ready.
   pub misses_rightly : (slots freed : ℕ) (closed : Bool) (log : List (ℕ × T)) (cells : ℕ → Cell) (seat : ℕ → ℕ) (views : List (View T))
@@ -356,16 +346,10 @@ module _ {T : Type 0} where
   misses_rightly slots freed closed log cells seat views id v old at is not =
       let w = with_look v false in
       let t : Turned views id v w = record { at = at; role = refl; looks = λ _. omega arith; ready = inl refl } in
-      honest_after slots freed freed closed closed log log cells cells seat views id v w old (saw_open_after closed views id v w old.saw_open at refl (λ o. (o, refl)) refl)
+      steps slots freed freed closed log log cells cells seat views id v w old t (refl, refl, refl, refl) (omega arith) (grows_none log)
       (misses_not slots freed log cells seat (set views id w) not)
-      (heard_after slots freed freed log log cells cells views id v w old.heard at refl (omega arith) (grows_none log) (λ p le o. o))
-      record {
-        turned = t;
-        closes = λ e. e;
-        shut = old.shut id v at;
-        own = λ r _. absurd (cc);
-        others = λ j d _ _. omega arith;
-      }
+      (λ p le o. o)
+      (λ r _. absurd (cc)) (λ j d _ _. omega arith)
 
   -- The next place is given back.
   pub frees_rightly : (slots freed : ℕ) (closed : Bool) (log : List (ℕ × T)) (cells : ℕ → Cell) (seat : ℕ → ℕ) (views : List (View T))
@@ -376,17 +360,10 @@ module _ {T : Type 0} where
       let w = freed_of v x (v.asks_then ++ map asks_of views ∷ []) in
       let t : Turned views id v w = record { at = at; role = refl; looks = λ _. omega arith; ready = inl refl } in
       let hand : hand_of v.stage ≡ 0 = ap hand_of was in
-      honest_after slots freed (suc freed) closed closed log log cells (put cells i (p, free)) seat views id v w old (saw_open_after closed views id v w old.saw_open at refl (λ o. (o, refl)) refl)
+      steps slots freed (suc freed) closed log log cells (put cells i (p, free)) seat views id v w old t (refl, refl, refl, refl) (omega arith) (grows_none log)
       (misses_found slots (suc freed) log (put cells i (p, free)) seat views id w zeroth refl)
-      (heard_after slots freed (suc freed) log log cells (put cells i (p, free)) views id v w old.heard at refl (omega arith) (grows_none log)
-      (outs_put slots (suc freed) i cells (p, free) (λ q o le. absurd (read_past (cells i) freed id q held o le))))
-      record {
-        turned = t;
-        closes = λ e. e;
-        shut = old.shut id v at;
-        own = λ r _. absurd (cc);
-        others = λ j d _ there. let more = gave_back_more v w views j d refl there in omega arith;
-      }
+      (outs_put slots (suc freed) i cells (p, free) (λ q o le. absurd (read_past (cells i) freed id q held o le)))
+      (λ r _. absurd (cc)) (λ j d _ there. let more = gave_back_more v w views j d refl there in omega arith)
 
   -- A new table.
   pub starts_rightly : (slots : ℕ) (seat : ℕ → ℕ) → IsHonest slots 0 false [] (λ i. (i, free)) seat (first_view {T = T} ∷ [])
