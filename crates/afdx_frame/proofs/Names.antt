@@ -27,7 +27,7 @@ pub use Rattle.std.proofs.Math.ListN.{length-replicate}
 pub use Rattle.std.proofs.Math.Seq.{drop-append-add, get_or-append_right, take-append-add, take-append_seam, take-set-lt}
 pub use Rattle.std.proofs.lemmas.Bool.{cases_Bool, cases_lt, false_from_ne_true, le-ltb}
 pub use Rattle.std.proofs.lemmas.Bool.Decides.{nat_tests}
-pub use Rattle.std.proofs.lemmas.List.{drop-drop, drop_at, get_or-drop, get_or-map, get_or-replicate, get_or-set_other, get_or-set_same, get_or-take, take-take, take-append-drop, take-append-le, take_all, get_or_append_left, get_or_push, length-drop, length-map, length-set, length-take, length-take-le, map-append, set-get_or, set-set, set_past, take-replicate, take_at}
+pub use Rattle.std.proofs.lemmas.List.{drop-drop, drop_all, drop_at, get_or-drop, get_or-map, get_or-replicate, get_or-set_other, get_or-set_same, get_or-take, take-take, take-append-drop, take-append-le, take_all, get_or_append_left, get_or_push, length-drop, length-map, length-set, length-take, length-take-le, map-append, set-get_or, set-set, set_past, take-replicate, take_at}
 pub use Rattle.std.proofs.lemmas.List.Sums.{fails_before_first, position_or_len_is, sum_by-cons}
 pub use Rattle.std.proofs.lemmas.List.Elements.{All-contains, All-contains_itself, All-from_recursion, All-head, All-map, All-tail, All-weaker, Contains-get_or, recursion_from_All}
 pub use Rattle.std.specs.List.{AllByRecursion, list_any}

@@ -28,19 +28,32 @@ impl Model for FrameBuffer {
     ghost invariant = { λ b. b.len ≤ GREATEST_FRAME };
 }
 
+/// Overwrites all bytes.
+fn put_all<const N: usize>(out: &mut [u8], bytes: &[u8; N])
+    requires { length out.old ≡ N }
+    ensures { out.new ≡ bytes.now }
+{
+    if let Some(all) = out.as_mut_array::<N>() {
+        *all = *bytes;
+    }
+}
+
+/// Overwrites the first `N` bytes. A copy of a fixed length is no call.
+pub(crate) fn put_first<const N: usize>(out: &mut [u8], bytes: &[u8; N])
+    requires { N ≤ length out.old }
+    ensures { take N out.new ≡ bytes.now }
+{
+    put_all(&mut out[..N], bytes);
+}
+
 /// Overwrites the first bytes.
-fn put_front(out: &mut [u8; GREATEST_FRAME], frame: &[u8])
-    requires { length frame.now ≤ GREATEST_FRAME }
+fn put_front(out: &mut [u8], frame: &[u8])
+    requires { length frame.now ≤ length out.old }
     ensures { take (length frame.now) out.new ≡ frame.now }
 {
-    // A copy of a fixed length is no call.
-    if let (Some(front), Some(short)) = (
-        out.first_chunk_mut::<SHORTEST_FRAME>(),
-        frame.as_array::<SHORTEST_FRAME>(),
-    ) {
-        *front = *short;
-    } else {
-        put(out, 0, frame);
+    match frame.as_array::<SHORTEST_FRAME>() {
+        Some(short) => put_first(out, short),
+        None => put(out, 0, frame),
     }
 }
 
@@ -117,16 +130,16 @@ pub(crate) fn append(out: &mut Frame, bytes: &[u8])
 
 /// Overwrites bytes from an index on.
 #[tactic(auto, using(std::proofs::lemmas::Slice::overwrites))]
-pub(crate) fn put(out: &mut [u8; GREATEST_FRAME], at: usize, bytes: &[u8])
-    requires { at + length bytes.now ≤ GREATEST_FRAME }
+pub(crate) fn put(out: &mut [u8], at: usize, bytes: &[u8])
+    requires { at + length bytes.now ≤ length out.old }
     ensures { take (at + length bytes.now) out.new ≡ take at out.old ++ bytes.now }
 {
     out[at..at + bytes.len()].copy_from_slice(bytes);
 }
 
 /// Overwrites bytes as `put` does, by two copies of `step` bytes each, the first and the last, which may overlap.
-fn put_ends(out: &mut [u8; GREATEST_FRAME], at: usize, bytes: &[u8], step: usize)
-    requires room { at + length bytes.now ≤ GREATEST_FRAME }
+fn put_ends(out: &mut [u8], at: usize, bytes: &[u8], step: usize)
+    requires room { at + length bytes.now ≤ length out.old }
     requires least { step ≤ length bytes.now }
     requires most { length bytes.now ≤ step + step }
     ensures { take (at + length bytes.now) out.new ≡ take at out.old ++ bytes.now }
@@ -137,8 +150,8 @@ fn put_ends(out: &mut [u8; GREATEST_FRAME], at: usize, bytes: &[u8], step: usize
 }
 
 /// Overwrites bytes as `put` does, but copies fewer than 16 bytes without a call.
-pub(crate) fn put_short(out: &mut [u8; GREATEST_FRAME], at: usize, bytes: &[u8])
-    requires { at + length bytes.now ≤ GREATEST_FRAME }
+pub(crate) fn put_short(out: &mut [u8], at: usize, bytes: &[u8])
+    requires { at + length bytes.now ≤ length out.old }
     ensures { take (at + length bytes.now) out.new ≡ take at out.old ++ bytes.now }
 {
     let many = bytes.len();

@@ -1,6 +1,6 @@
 //! The index of each field of a frame, in bytes from the destination MAC address on, and the piece of a datagram in it;
 //! a word.
-ghost use Rattle.std.specs.Prelude.{◌≡◌, ◌+◌, ◌≤◌, length};
+ghost use Rattle.std.specs.Prelude.{◌≡◌, ◌+◌, ◌/◌, ◌%◌, ◌≤◌, length, slice_set};
 ghost use Rattle.afdx_frame.specs.Profile.{word_at, has_more, is_icmp};
 
 use byteorder::{BigEndian, ByteOrder};
@@ -62,6 +62,14 @@ pub fn word_at(bytes: &[u8], i: usize) -> u16
     ensures { result ≡ word_at bytes.now i }
 {
     BigEndian::read_u16(&bytes[i..])
+}
+
+/// Overwrites the 16-bit number at an index, high byte first.
+pub(crate) fn set_word(out: &mut [u8], i: usize, word: u16)
+    requires { i + 2 ≤ length out.old }
+    ensures { out.new ≡ slice_set (slice_set out.old i (word / 256 % 256)) (i + 1) (word % 256) }
+{
+    BigEndian::write_u16(&mut out[i..i + 2], word);
 }
 
 /// The greatest length of a datagram in bytes: a message of 8,192 bytes with its UDP header.

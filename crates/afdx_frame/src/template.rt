@@ -1,12 +1,14 @@
 //! The headers of a port's frames, made once for all of them.
-ghost use Rattle.std.specs.Prelude.{◌≡◌, take};
+ghost use Rattle.std.specs.Prelude.{◌≡◌, ◌≤◌, length, take};
 ghost use Rattle.afdx_plan.specs.Plan.{IsPort};
 ghost use Rattle.afdx_plan.specs.Address.{destination_address};
 ghost use Rattle.afdx_frame.specs.Template.{unfilled, Origin, IsTemplate};
 ghost use Rattle.afdx_frame.specs.Checksum.{word_sum};
 ghost use Rattle.afdx_frame.specs.Frame.{addresses};
 
-use crate::net::{GREATEST_FRAME, INTERFACE_A};
+use crate::buffer::put_first;
+use crate::field::{self, set_word};
+use crate::net::INTERFACE_A;
 use afdx_plan::PortPlan;
 use internet_sum::word_sum;
 use std::marker::Model;
@@ -46,8 +48,9 @@ fn destination(port: &PortPlan) -> [u8; 4]
     match port.unicast {
         Some(address) => address,
         None => {
-            let [high, low] = port.vl.0.to_be_bytes();
-            [0xe0, 0xe0, high, low]
+            let mut address = [0xe0; 4];
+            set_word(&mut address, 2, port.vl.0);
+            address
         }
     }
 }
@@ -58,32 +61,32 @@ impl Template {
         requires { IsPort port.now }
         ensures { result ≡ record { end_system = end_system; port = port.now } }
     {
-        let [v0, v1] = port.vl.0.to_be_bytes();
-        let [e0, e1] = end_system.to_be_bytes();
         let [d0, d1, d2, d3] = destination(port);
-        let [s0, s1] = port.source.to_be_bytes();
-        let [t0, t1] = port.destination.to_be_bytes();
         let (a, p) = (INTERFACE_A, port.partition);
+        let mut headers = [
+            3, 0, 0, 0, 0, 0, 2, 0, 0, 0, 0, a, 8, 0, // MAC addresses, type
+            0x45, 0, 0, 0, 0, 0, 0, 0, 1, 17, 0, 0, // the internet header to its checksum
+            10, 0, 0, p, d0, d1, d2, d3, // addresses
+            0, 0, 0, 0, // UDP ports
+        ];
+        set_word(&mut headers, field::LINK, port.vl.0);
+        set_word(&mut headers, field::END_SYSTEM, end_system);
+        set_word(&mut headers, field::SOURCE + 1, end_system);
+        set_word(&mut headers, field::DATA, port.source);
+        set_word(&mut headers, field::DATA + 2, port.destination);
         Template {
             port: *port,
-            headers: [
-                3, 0, 0, 0, v0, v1, 2, 0, 0, e0, e1, a, 8, 0, // MAC addresses, type
-                0x45, 0, 0, 0, 0, 0, 0, 0, 1, 17, 0, 0, // the internet header to its checksum
-                10, e0, e1, p, d0, d1, d2, d3, // addresses
-                s0, s1, t0, t1, // UDP ports
-            ],
-            sum: word_sum(&[10, e0, e1, p, d0, d1, d2, d3]),
+            headers,
+            sum: word_sum(&headers[field::SOURCE..field::DATA]),
             end_system,
         }
     }
 
     /// Writes the headers, not filled in yet.
-    pub(crate) fn put(&self, out: &mut [u8; GREATEST_FRAME])
+    pub(crate) fn put(&self, out: &mut [u8])
+        requires { 38 ≤ length out.old }
         ensures { take 38 out.new ≡ unfilled self.now }
     {
-        // A copy of a fixed length is no call.
-        if let Some(front) = out.first_chunk_mut::<38>() {
-            *front = self.headers;
-        }
+        put_first(out, &self.headers);
     }
 }
