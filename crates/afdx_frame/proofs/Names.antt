@@ -22,6 +22,7 @@ pub use Rattle.afdx_frame.specs.declared.field.Piece.{Piece}
 pub use Rattle.afdx_plan.specs.Address.{two_bytes}
 pub use Rattle.afdx_plan.specs.Plan.{identification, step_of, IsPort}
 pub use Rattle.afdx_plan.specs.declared.port_plan.PortPlan.{PortPlan}
+pub use Rattle.arrayvec.proofs.ArrayVecLemmas.{items-with_items}
 pub use Rattle.std.proofs.Common.{Bool, List, MatchOption, None, Option, Some, [], ap, append-nil, append_assoc, arith, drop, false, get_or, inl, inr, length-append, length, map, max, nat_le, nat_lt, not, refl, replicate, rules, set, slice_index, subst, suc, sum, sym, take, true, zero, ℕ, ◌%◌, ◌*◌, ◌++◌, ◌+◌, ◌-◌, ◌/◌, ◌<◌, ◌∙◌, ◌∷◌, ◌≡◌, ◌≢◌, ◌≤◌, ◌⊎◌, ◌==◌, ◌↔◌}
 pub use Rattle.std.proofs.Math.ListN.{length-replicate}
 pub use Rattle.std.proofs.Math.Seq.{drop-append-add, get_or-append_right, take-append-add, take-append_seam, take-set-lt}

@@ -17,15 +17,16 @@ use std::marker::Model;
 pub struct FrameBuffer {
     // The length of the frame. First, so that a short frame and its length are in the same lines of the cache.
     pub(crate) len: usize,
-    pub(crate) bytes: [u8; GREATEST_FRAME],
+    // Full until the frame leaves the buffer, and overwritten in place: a vector blanks what is cut off.
+    pub(crate) bytes: ArrayVec<u8, GREATEST_FRAME>,
 }
 
 impl Model for FrameBuffer {
     ghost Value = { Buffered };
 
-    ghost view = { λ b. record { items = take b.len b.bytes } };
+    ghost view = { λ b. record { items = take b.len b.bytes.items } };
 
-    ghost invariant = { λ b. b.len ≤ GREATEST_FRAME };
+    ghost invariant = { λ b. (b.len ≤ GREATEST_FRAME) × (array_vec_len b.bytes ≡ GREATEST_FRAME) };
 }
 
 /// Overwrites all bytes.
@@ -63,7 +64,7 @@ impl FrameBuffer {
         ensures { result.items ≡ [] }
     {
         FrameBuffer {
-            bytes: [0; GREATEST_FRAME],
+            bytes: ArrayVec::from_array_in((), [0; GREATEST_FRAME]),
             len: 0,
         }
     }
@@ -73,7 +74,7 @@ impl FrameBuffer {
         ensures value { result.now ≡ self.now.items }
         ensures short { length result.now ≤ GREATEST_FRAME }
     {
-        &self.bytes[..self.len]
+        &self.bytes.as_slice()[..self.len]
     }
 
     /// Copies a frame in.
@@ -81,7 +82,7 @@ impl FrameBuffer {
         requires { length frame.now ≤ GREATEST_FRAME }
         ensures { self.new.items ≡ frame.now }
     {
-        put_front(&mut self.bytes, frame);
+        put_front(self.bytes.as_mut_slice(), frame);
         self.len = frame.len();
     }
 
@@ -91,17 +92,17 @@ impl FrameBuffer {
         ensures { self.new.items ≡ twin_of net self.old.items }
     {
         if field::INTERFACE < self.len {
-            self.bytes[field::INTERFACE] = interface(net);
+            self.bytes.as_mut_slice()[field::INTERFACE] = interface(net);
         }
     }
 
-    /// Returns a copy of the frame.
-    pub fn to_frame(&self) -> Frame
-        ensures { result.items ≡ self.now.items }
+    /// Returns the frame, in the buffer's vector.
+    pub fn into_frame(self) -> Frame
+        ensures { result.items ≡ self.items }
     {
-        let mut frame: Frame = ArrayVec::new();
-        append(&mut frame, self.as_slice());
-        frame
+        let FrameBuffer { len, mut bytes } = self;
+        bytes.truncate(len);
+        bytes
     }
 }
 
@@ -113,19 +114,7 @@ pub fn twin(frame: &Frame, net: Net) -> Frame
     let mut out = FrameBuffer::new();
     out.fill(frame);
     out.turn(net);
-    out.to_frame()
-}
-
-/// Appends bytes.
-pub(crate) fn append(out: &mut Frame, bytes: &[u8])
-    requires { array_vec_len out.old + length bytes.now ≤ GREATEST_FRAME }
-    ensures items { out.new.items ≡ out.old.items ++ bytes.now }
-    ensures len { array_vec_len out.new ≡ array_vec_len out.old + length bytes.now }
-{
-    match out.try_extend_from_slice(bytes) {
-        Ok(()) => {}
-        Err(_) => unreachable!(),
-    }
+    out.into_frame()
 }
 
 /// Overwrites bytes from an index on.

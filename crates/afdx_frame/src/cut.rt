@@ -211,6 +211,6 @@ impl Cut {
         if !self.rest.write_next(&self.bytes, None, &template, link, number, net, &mut frame) {
             return None;
         }
-        Some(frame.to_frame())
+        Some(frame.into_frame())
     }
 }
