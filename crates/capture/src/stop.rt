@@ -1,4 +1,7 @@
 //! The reasons for which a reading stops, and the end of a capture.
+use crate::interface::MOST_INTERFACES;
+use crate::unit::GREATEST_UNIT;
+use thiserror::Error;
 
 /// The end of a capture, after the packets that were read.
 #[derive(Clone, Copy, Debug, PartialEq, Eq)]
@@ -12,41 +15,41 @@ pub enum CaptureEnd {
 }
 
 /// The faults of a capture.
-#[derive(Clone, Copy, Debug, PartialEq, Eq)]
+#[derive(Clone, Copy, Debug, PartialEq, Eq, Error)]
 pub enum Fault {
-    /// The first bytes begin neither pcapng nor pcap.
+    #[error("the first bytes begin neither pcapng nor pcap")]
     Format,
-    /// The byte-order magic of a section is none.
+    #[error("the byte-order magic of a section is none")]
     ByteOrder,
-    /// The major version isn't 1 in pcapng, or 2 in pcap.
+    #[error("the major version isn't 1 in pcapng, or 2 in pcap")]
     Version,
-    /// A block's length is no multiple of 4, or too short for its type.
+    #[error("a block's length is no multiple of 4, or too short for its type")]
     Length,
-    /// A block or a record is longer than `GREATEST_UNIT`.
+    #[error("a block or a record is longer than {GREATEST_UNIT} bytes")]
     TooLong,
-    /// A block has another length at its end than in front.
+    #[error("a block has another length at its end than in front")]
     EndLength,
-    /// The link type of an interface isn't Ethernet.
+    #[error("the link type of an interface isn't Ethernet")]
     LinkType,
-    /// An option runs past the end of its block, or its value has a wrong length.
+    #[error("an option runs past the end of its block, or its value has a wrong length")]
     BadOption,
-    /// A section has more interfaces than `MOST_INTERFACES`.
+    #[error("a section has more than {MOST_INTERFACES} interfaces")]
     Interfaces,
-    /// A packet block of the type that the format has given up (2), which isn't read.
+    #[error("a packet block has the type that the format has given up (2), which isn't read")]
     Obsolete,
-    /// A packet names an interface that its section doesn't describe.
+    #[error("a packet names an interface that its section doesn't describe")]
     NoInterface,
-    /// The bytes of a packet run past the end of its block.
+    #[error("the bytes of a packet run past the end of its block")]
     Captured,
-    /// The time of a packet is before 1970.
+    #[error("the time of a packet is before 1970")]
     Time,
 }
 
 /// The reasons for which no step was taken.
-#[derive(Clone, Copy, Debug, PartialEq, Eq)]
+#[derive(Clone, Copy, Debug, PartialEq, Eq, Error)]
 pub enum NoStep {
-    /// The window ends before the next block or record does.
+    #[error("the window ends before the next block or record does")]
     More,
-    /// The next block or record is malformed.
+    #[error("the next block or record is malformed: {0}")]
     Malformed(Fault),
 }
