@@ -363,8 +363,10 @@ def threads() -> None:
 
 
 def driven_runs() -> None:
-    """Random runs over random plans, with networks that fail, and plans of every size answer as the model says."""
+    """Random runs over random plans, with networks that fail, and plans of every size answer as the model says. Receivers and
+    switches get what the laws promise."""
     import driven
+    driven.long_run()
     done = [driven.run(seed) for seed in range(400)]
     check(50 < sum(done) < 350, sum(done))
     told = driven.damaged(7, 20_000)

@@ -5,6 +5,7 @@ import struct
 import zlib
 
 import model
+import receiving
 from test_run import random_line, random_plan, text_of
 from trying import check
 
@@ -34,12 +35,15 @@ class Driven(model.EndSystem):
         self.out = {number: self.it.port(number) for number in self.ports}
         self.accepted = dict.fromkeys(self.ports, 0)
         self.recorded: dict[str, list[tuple[int, bytes]]] = {name: [] for name in model.NETWORKS}
+        self.sent: dict[tuple[int, int], list[tuple[int, bytes]]] = {}
 
     def send(self, number: int, message: bytes) -> str:
         wanted = super().send(number, message)
         if number in self.out:
             told = said(self.out[number].send, message)
             self.accepted[number] += not told
+            port = self.ports[number]
+            self.sent.setdefault((port["vl"], port["sub"]), []).extend([] if told else [(port["source"], message)])
             check((told, self.out[number].accepted) == (wanted, self.accepted[number]), (number, told, wanted))
         return wanted
 
@@ -102,7 +106,18 @@ def run(seed: int) -> bool:
             driven.obey(words)
     for name in rng.choice(("", "", "A", "B", "AB")):
         driven.fail(name)
-    return driven.drain(rng.choice((1000, 4000)), 60)
+    is_done = driven.drain(rng.choice((1000, 4000)), 60)
+    receiving.receive(driven.recorded, {vl: link.table for vl, link in driven.links.items()}, driven.sent, is_done, rng)
+    return is_done
+
+
+def long_run() -> None:
+    """A link whose numbers come twice, as receivers take it."""
+    driven = Driven(size(1), random.Random(1))
+    for at in range(0, 600_000, 1000):
+        driven.send(0, bytes(1))
+        driven.at(at)
+    receiving.numbers(driven.recorded["A"], random.Random(2))
 
 
 def damaged(seed: int, many: int) -> dict[str, int]:
