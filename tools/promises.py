@@ -4,8 +4,10 @@
     python3 tools/promises.py [--write]
 
 `docs/assurance/promises.toml` states each promise with the clauses that carry it, the edits that must fail, and tests.
-Each name in it must exist, each public function with a contract and each edit must be in it, and the pages next to it
-must be what it yields. `--write` writes them. The last line is 'N passed, M failed', the exit status 0 if nothing failed.
+Each name in it must exist, each clause must be an `ensures` that says something, and each row but a trusted one must
+have an edit or a test. Each public function with a contract and each edit must be in it, and each edit must change its
+text. The pages next to it must be what it yields; `--write` writes them. The last line is 'N passed, M failed', the exit
+status 0 if nothing failed.
 """
 import os
 import re
@@ -23,7 +25,9 @@ FOLDER = "docs/assurance"
 BLOCK = re.compile(r"(?:pub )?(?:impl|(trait))\b(?:<.*?>)? (?:(.+) for )?(\w+)")
 FUNCTION = re.compile(r' *(pub(?:\(\w+\))? )?(?:const )?(extern "C" )?fn (\w+)')
 FUNCTION_NAMED = re.compile(r"(\w+)::((?:\w+::)?)(\w+)(.*)")
-CLAUSE = re.compile(r"\s+(?:ensures|requires) (\w*) ?\{")
+CLAUSE = re.compile(r"\s+(ensures|requires)\*? (\w*) ?\{")
+# The bodies of clauses that say nothing.
+NOTHING = ("", "Unit", "Unit {0}", "⊤")
 USE = re.compile(r"(?m)^(?:pub )?use Rattle\.(\w+)\.specs\.(\w+)\.\{(.*)\}")
 DEFINITION = re.compile(r"(?m)^(?:pub )?(?:abbrev|record|data|unfoldable) (?:pub )?(?=\w)")
 NO_DEFINITION = re.compile(r"(?m)^(?:(?:pub )?use |\s*--).*\n|^\s*\n")
@@ -34,14 +38,28 @@ def texts(pattern):
     return {path: text_of(path) for path in sorted(glob(pattern, root_dir=ROOT, recursive=True))}
 
 
+def body_of(text):
+    """The body of a clause: the text up to the brace that closes it."""
+    depth = 1
+    for brace in re.finditer(r"[{}]", text):
+        depth += 1 if brace[0] == "{" else -1
+        if depth == 0:
+            return " ".join(text[: brace.start()].split())
+    return ""
+
+
 def functions_of(crate, sources):
-    """Each function with a contract, by its path: its clauses, and whether other crates can call it."""
+    """Each function with a contract, by its path: the clauses that it ensures with their bodies, and whether other crates
+    can call it."""
     lib, found = sources[f"crates/{crate}/src/lib.rt"], {}
     modules = set(re.findall(r"(?m)^pub mod (\w+)", lib))
     shown = {word for use in re.findall(r"(?m)^pub use ([^;]*)", lib) for word in re.findall(r"\w+", use)}
     for path, text in sources.items():
         module, owner, of_trait, name = os.path.basename(path)[:-3], "", None, ""
-        for line in text.splitlines():
+        at = 0
+        for line in text.splitlines(keepends=True):
+            at += len(line)
+            line = line.removesuffix("\n")
             if block := BLOCK.match(line):
                 of_trait, owner = block[1] or block[2], f"{block[3]}::"
             elif line.startswith("}"):
@@ -54,19 +72,27 @@ def functions_of(crate, sources):
             elif line.strip() == "{":
                 name = ""
             elif name and (clause := CLAUSE.match(line)):
-                found.setdefault(name, (set(), bool(is_public)))[0].add(clause[1])
+                clauses = found.setdefault(name, ([], bool(is_public)))[0]
+                if clause[1] == "ensures":
+                    clauses.append((clause[2], body_of(text[at - len(line) - 1 + clause.end() :])))
     return found
 
 
 def read_tree():
-    """What a row may name: functions with their clauses, edits, and tests of the crates."""
+    """What a row may name: functions with their clauses, edits with their texts, and tests of the crates."""
     functions, tests = {}, set()
     for lib in texts("crates/*/src/lib.rt"):
         sources = texts(f"{os.path.dirname(lib)}/**/*.rt")
         named = re.findall(r"#\[test\]\s+fn (\w+)", "\n".join(sources.values()))
         tests.update(named)
         functions |= {} if named else functions_of(lib.split("/")[1], sources)
-    return functions, {"/".join(it[:-5].split("/")[1::2]) for it in texts("crates/*/must-fail/*.edit")}, tests
+    return functions, {"/".join(it[:-5].split("/")[1::2]): text for it, text in texts("crates/*/must-fail/*.edit").items()}, tests
+
+
+def changes(edit):
+    """Whether an edit replaces each of its texts by another one."""
+    old, new = (re.findall(rf"(?m)^{word}:(.*)", edit) for word in ("old", "new"))
+    return 0 < len(old) == len(new) and all(one.split() != other.split() for one, other in zip(old, new))
 
 
 def is_test(name, tests):
@@ -84,11 +110,13 @@ def findings(source, functions, edits, tests):
     for row in rows:
         it, by = f"'{row['says'][:60]}'", row.get("by")
         if not by or isinstance(by, str):
-            yield "" if by == "trusted" or by == "tested" and "tests" in row else f"{it}: no clause and no test"
+            yield "" if by == "trusted" or by == "tested" and row.get("tests") else f"{it}: no clause and no test"
             by = []
+        elif not row.get("edits") and not row.get("tests"):
+            yield f"{it}: neither an edit nor a test"
         for path, _, clauses in (text.rstrip("]").partition(" [") for text in by):
             named.add(path)
-            has = functions.get(path, ([],))[0]
+            has = [clause for clause, _ in functions.get(path, ([],))[0]]
             yield "" if has else f"{it}: no function with a contract: {path}"
             yield from ("" if clause in has or not has else f"{it}: {path} has no clause {clause}" for clause in clauses.split())
         yield from ("" if edit in edits else f"{it}: no edit {edit}" for edit in row.get("edits", []))
@@ -98,6 +126,9 @@ def findings(source, functions, edits, tests):
         named.add(path)
     yield from ("" if path in named else f"no row has the public function {path}" for path, (_, public) in functions.items() if public)
     yield from ("" if edit in edited else f"no row has the edit {edit}" for edit in sorted(edits))
+    yield from ("" if changes(text) else f"the edit {edit} changes nothing" for edit, text in sorted(edits.items()))
+    empty = ((path, clause) for path, (clauses, _) in functions.items() for clause, body in clauses if body in NOTHING)
+    yield from (f"{path}: its clause {clause} says nothing" for path, clause in empty)
 
 
 def cell(names, home):
