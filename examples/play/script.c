@@ -81,8 +81,9 @@ static uint8_t add_line(struct script *script, size_t number, const uint8_t *lin
 }
 
 int read_script(const uint8_t *text, size_t length, struct script *script) {
-    size_t number = 0;
-    const uint8_t *at = text, *end = text + length;
+    static const uint8_t mark[] = {0xef, 0xbb, 0xbf}; // the byte order mark of UTF-8
+    size_t number = 0, skipped = length >= sizeof mark && memcmp(text, mark, sizeof mark) == 0 ? sizeof mark : 0;
+    const uint8_t *at = text + skipped, *end = text + length;
     while (at < end && script->faulty == 0 && !script->is_too_long) {
         const uint8_t *feed = memchr(at, '\n', (size_t)(end - at)), *stop = feed == NULL ? end : feed;
         const uint8_t *last = feed != NULL && stop > at && stop[-1] == '\r' ? stop - 1 : stop;

@@ -133,6 +133,7 @@ static void check_lines(void) {
         {"send 1 00 00", AFDX_LINE_EXTRA, {0, 0, 0, 0, 0}, ""},
         {"at 1 1", AFDX_LINE_EXTRA, {0, 0, 0, 0, 0}, ""},
         {"close 1 2 3", AFDX_LINE_EXTRA, {0, 0, 0, 0, 0}, ""},
+        {"\xef\xbb\xbf" "at 1", AFDX_LINE_WORD, {0, 0, 0, 0, 0}, ""}, /* a byte order mark is no part of a line */
         {"at 1\r", AFDX_LINE_NUMBER, {0, 0, 0, 0, 0}, ""}, /* an end is no part of a line */
     };
     for (size_t k = 0; k < sizeof rows / sizeof *rows; k++)

@@ -194,8 +194,8 @@ class EndSystem:
 
 
 def words_of(line: bytes) -> list[bytes]:
-    """The words of a line after its byte order mark, none if it has no effect."""
-    words = [word for word in line.removeprefix(b"\xef\xbb\xbf").replace(b"\t", b" ").split(b" ") if word]
+    """The words of a line, none if it has no effect."""
+    words = [word for word in line.replace(b"\t", b" ").split(b" ") if word]
     return [] if words and words[0].startswith(b"#") else words
 
 
@@ -217,9 +217,9 @@ def fault_of(line: bytes, words: list[bytes]) -> int:
 
 
 def run(plan: str, script: bytes) -> Ended:
-    """How a run ends, and what it prints."""
+    """How a run ends, and what it prints. A byte order mark before the first line is no part of it."""
     end_system, notes, error = EndSystem(tomllib.loads(plan)), [], ""
-    *lines, last = script.split(b"\n")
+    *lines, last = script.removeprefix(b"\xef\xbb\xbf").split(b"\n")
     lines = [line.removesuffix(b"\r") for line in lines] + [last] * bool(last)
     for number, line in enumerate(lines, 1):
         words = words_of(line)

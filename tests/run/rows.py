@@ -97,7 +97,7 @@ def basics() -> Iterator[Row]:
     yield row("the same after a comment and a blank line", DEMO, "# note\r||\r| send\t0010 01|at 0", ONE_FRAME, 1)
     mark = "\xef\xbb\xbf"
     yield row("the same after a byte order mark", DEMO, f"{mark}send 10 01|at 0|", ONE_FRAME, 1)
-    yield row("a byte order mark where files were joined", DEMO, f"{mark}# note|{mark}send 10 01|{mark} at 0|{mark}", ONE_FRAME, 1)
+    yield row("a byte order mark alone", DEMO, mark, "", 0)
     script = "\r|  send\t10   01 \r|\t\t# \0\xff\xc3\xa9\r| \t \r| at \t 0\r|   at     1000"
     yield case("blanks, and a comment of odd bytes", script, "", [FIRST], 1)
     yield case("no line", "", "", [], 0)
@@ -282,8 +282,10 @@ def line_faults() -> Iterator[Row]:
     mark = b"\xef\xbb\xbf"
     for front in (mark[:1], mark[:2], b"\xef\xbb\xbe", b"\xff\xfe", 2 * mark, b" " + mark):
         yield Row(f"{front!r} before a line", DEMO, front + b"at 0\n", 2, "", "script line 1: 1 Word\n")
-    yield Row("a long line with a byte order mark", DEMO, mark + b" " * 19_998, 2, "", "script line 1: 5 Long\n")
-    yield Row("one byte less", DEMO, mark + b" " * 19_997 + b"\nat 0 0", 2, "", "script line 2: 4 Extra\n")
+        yield Row(f"{front!r} alone", DEMO, front, 2, "", "script line 1: 1 Word\n")
+    yield Row("a byte order mark before a later line", DEMO, b"send 10 01\n" + mark + b"at 0\n", 2, "", "script line 2: 1 Word\n")
+    yield Row("a long line after a byte order mark", DEMO, mark + b" " * 20_001, 2, "", "script line 1: 5 Long\n")
+    yield Row("one byte less", DEMO, mark + b" " * 20_000 + b"\nat 0 0", 2, "", "script line 2: 4 Extra\n")
     for end in ("", "\r\n", "\n"):
         yield row("20,000 blanks", DEMO, f"send 10 01|at 0\r|{' ' * 20_000}{end}", ONE_FRAME, 1)
 

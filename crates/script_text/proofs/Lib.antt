@@ -1,5 +1,6 @@
 mod FeedLemmas
 mod LineLemmas
+mod MarkLemmas
 mod MeaningLemmas
 mod WordLemmas
 pub mod Written

@@ -1,5 +1,5 @@
 -- The first line of a text, by what was read of it.
-use Rattle.script_text.proofs.Names.{◌≡◌, ◌≢◌, ℕ, ◌+◌, ◌-◌, ◌<◌, ◌≤◌, ◌==◌, Bool, true, false, cond, List, [], ◌∷◌, ◌++◌, length, take, Option, Some, ◌∙◌, arith, length-take, length-append, Consumes, IsAtEnd, Consumes-trans, append-nil, ne_eqb, before_feed, after_feed, has_feed, IsPlain, without_return, TakesPlain, TakesLine, BeginsLong}
+use Rattle.script_text.proofs.Names.{◌≡◌, ◌≢◌, ℕ, ◌+◌, ◌-◌, ◌<◌, ◌≤◌, ◌==◌, Bool, true, false, cond, List, [], ◌∷◌, ◌++◌, length, take, Option, ◌∙◌, arith, length-take, length-append, Consumes, IsAtEnd, Consumes-trans, append-nil, ne_eqb, before_feed, after_feed, has_feed, IsPlain, without_return, TakesPlain, TakesLine, BeginsLong}
 
 -- bytes with no line feed were taken
 pub record HasRead (old left : Option (List ℕ)) (line : List ℕ) : Type 0 where

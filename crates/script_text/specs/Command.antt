@@ -1,5 +1,5 @@
 -- The words of a line and of a command, and the numbers among them.
-use Rattle.std.specs.Prelude.{ℕ, ◌+◌, ◌-◌, ◌*◌, Bool, not, ◌&&◌, ◌==◌, nat_le, if◌then◌else◌, List, [], ◌∷◌, length, Option, Some, None, ◌||◌, filter, drop, codes, slice_index, Result, Ok, Err}
+use Rattle.std.specs.Prelude.{ℕ, ◌+◌, ◌-◌, ◌*◌, Bool, not, ◌&&◌, ◌==◌, nat_le, if◌then◌else◌, List, [], ◌∷◌, length, Option, Some, None, ◌||◌, filter, codes, slice_index, Result, Ok, Err}
 use Rattle.std.specs.List.{list_all, slice_split}
 use Rattle.std.specs.Char.{is_ascii_digit}
 use Rattle.std.specs.Str.{bytes_eq}
@@ -36,17 +36,9 @@ abbrev pub without_note : List (List ℕ) → List (List ℕ)
 without_note [] = []
 without_note (w ∷ ws) = if slice_index w 0 == 35 then [] else w ∷ ws
 
--- the byte order mark of UTF-8 comes first
-abbrev pub has_mark : List ℕ → Bool
-has_mark line = (slice_index line 0 == 239) && (slice_index line 1 == 187) && (slice_index line 2 == 191)
-
--- a line without the byte order mark that an editor, or the joining of files, may have put before it
-abbrev pub after_mark : List ℕ → List ℕ
-after_mark line = if has_mark line then drop 3 line else line
-
 -- the words of a line's command: none at a blank line and at a comment
 abbrev pub command_of : List ℕ → List (List ℕ)
-command_of line = without_note (words_of (after_mark line))
+command_of line = without_note (words_of line)
 
 -- the word `send`
 unfoldable pub is_send : List ℕ → Bool

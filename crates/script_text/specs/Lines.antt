@@ -1,6 +1,14 @@
 -- The lines of a text. A line ends with a line feed (10); the last one may lack it.
-use Rattle.std.specs.Prelude.{◌≡◌, ℕ, ◌-◌, ◌<◌, ◌≤◌, ◌==◌, ◌&&◌, nat_lt, Bool, true, false, if◌then◌else◌, List, [], ◌∷◌, ◌++◌, length, take, slice_index, Option, IfSome, Some}
+use Rattle.std.specs.Prelude.{◌≡◌, ℕ, ◌-◌, ◌<◌, ◌≤◌, ◌==◌, ◌&&◌, nat_lt, Bool, true, false, if◌then◌else◌, List, [], ◌∷◌, ◌++◌, length, take, drop, slice_index, Option, IfSome, Some}
 use Rattle.std.specs.Io.KnownBytes.{Consumes}
+
+-- the byte order mark of UTF-8 comes first
+abbrev pub has_mark : List ℕ → Bool
+has_mark text = (slice_index text 0 == 239) && (slice_index text 1 == 187) && (slice_index text 2 == 191)
+
+-- a text without the byte order mark that an editor may have put before it
+abbrev pub after_mark : List ℕ → List ℕ
+after_mark text = if has_mark text then drop 3 text else text
 
 -- the bytes before the first line feed
 abbrev pub before_feed : List ℕ → List ℕ

@@ -6,6 +6,7 @@ mod bytes;
 mod faults;
 mod line_meaning;
 mod line_text;
+mod mark;
 mod transcript;
 mod words;
 
@@ -13,5 +14,6 @@ pub use bytes::Bytes;
 pub use faults::{LineFault, Refusal, RunFault};
 pub use line_meaning::{Line, read_line};
 pub use line_text::{LINE_LIMIT, Next, ReadFault, next_line};
+pub use mark::skip_mark;
 pub use transcript::{Outcome, Summary, write_note, write_streams};
 pub use words::{Message, number};

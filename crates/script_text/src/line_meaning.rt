@@ -1,6 +1,6 @@
 //! Reading a line.
 ghost use Rattle.std.specs.Prelude.{◌≡◌, ◌≢◌, ◌⊎◌, None, Some, IfOk, IfErr};
-ghost use Rattle.script_text.specs.Command.{after_mark, message_of, words_of};
+ghost use Rattle.script_text.specs.Command.{message_of, words_of};
 ghost use Rattle.script_text.specs.Faults.{IsFirstFault, IsFaultless, send_fault, at_fault, close_fault};
 ghost use Rattle.script_text.specs.Meaning.{meaning_of, IsSaidSend, IsSaidAt, IsSaidClose};
 
@@ -19,18 +19,8 @@ pub enum Line {
     Nothing,
 }
 
-/// Returns a line without the byte order mark that may stand before it.
-fn after_mark(line: &[u8]) -> &[u8]
-    ensures { result.now ≡ after_mark line.now }
-{
-    match line {
-        [0xef, 0xbb, 0xbf, rest @ ..] => rest,
-        _ => line,
-    }
-}
-
-/// Parses a line, given without its end, whose byte order mark is left out. The error is its first fault in the order
-/// `Long`, `Word`, `Number`, `Hex`, `Extra`; `Memory` may be returned in place of any answer.
+/// Parses a line, given without its end. The error is its first fault in the order `Long`, `Word`, `Number`, `Hex`,
+/// `Extra`; `Memory` may be returned in place of any answer.
 #[tactic(auto, unfolding(crate::specs::Command::is_send, crate::specs::Command::is_at, crate::specs::Command::is_close))]
 pub fn read_line(alloc: Global, line: &[u8]) -> Result<Line, LineFault>
     ensures ok { IfOk result (λ said. said ≡ meaning_of line.now) }
@@ -40,7 +30,7 @@ pub fn read_line(alloc: Global, line: &[u8]) -> Result<Line, LineFault>
     if line.len() > LINE_LIMIT {
         return Err(LineFault::Long);
     }
-    let Some((word, rest)) = next_word(after_mark(line)) else {
+    let Some((word, rest)) = next_word(line) else {
         return Ok(Line::Nothing);
     };
     if word.first() == Some(&b'#') {

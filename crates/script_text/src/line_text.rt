@@ -8,6 +8,7 @@ ghost use Rattle.script_text.specs.declared.line_text.ReadFault.TheVariants.{Mem
 use crate::bytes::Bytes;
 use std::alloc::{AllocError, AllocFailed};
 use std::io::Read;
+use thiserror::Error;
 
 /// The greatest length of a line, in bytes without its end.
 pub const LINE_LIMIT: usize = 20_000;
@@ -36,9 +37,11 @@ impl Next {
 }
 
 /// The reasons for which no line was read.
-#[derive(Clone, Copy, Debug, PartialEq, Eq)]
+#[derive(Clone, Copy, Debug, PartialEq, Eq, Error)]
 pub enum ReadFault {
+    #[error("read failed")]
     Read,
+    #[error("out of memory")]
     Memory,
 }
 

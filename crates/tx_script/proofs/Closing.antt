@@ -1,5 +1,5 @@
 -- A sub-VL is closed: the end system that matches stays the same.
-use Rattle.tx_script.proofs.Names.{ℕ, ◌≡◌, ◌+◌, List, arith, refl, ap, ◌∙◌, sym, subst, Option, Some, None, Plan, IsPlan, Closes, Held, LinkState, held_at, link_at, nothing_held, no_link, Seen, receiving, gathered, total_of, each_set, IsSubAt, LacksSub, ClosesTx, Tx, total_in, PortView, none_has, found_at, ClosedLinks, closes_within, closes_links, Close, NoSub, AtBench, IsAtHand, Obeys, progress_of, MatchesTx, EndSystem, Answer, tells, told_by, closed_at, link_of, ClosesAt}
+use Rattle.tx_script.proofs.Names.{ℕ, ◌≡◌, List, arith, refl, ap, ◌∙◌, sym, subst, Option, Some, None, Plan, IsPlan, Closes, Held, LinkState, held_at, link_at, nothing_held, no_link, Seen, receiving, gathered, total_of, each_set, IsSubAt, LacksSub, ClosesTx, Tx, total_in, PortView, none_has, found_at, ClosedLinks, closes_within, closes_links, Close, NoSub, AtBench, IsAtHand, Obeys, progress_of, MatchesTx, EndSystem, Answer, tells, told_by, closed_at, link_of, ClosesAt}
 use Rattle.script_text.specs.declared.transcript.Outcome.TheVariants as Became
 use Rattle.tx_script.proofs.Matched.{asked_on, still_planned}
 use Rattle.tx_script.proofs.Sending.{obeys_still}

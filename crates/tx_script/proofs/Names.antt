@@ -18,7 +18,7 @@ pub use Rattle.afdx_tx.specs.declared.turns.Release.{Release}
 unfoldable pub use Rattle.redundant_mux.specs.Lines.{log}
 pub use Rattle.redundant_mux.specs.Lines.{Entry, IsMirrored, Keeps, Lines, Logged, sent_to}
 pub use Rattle.redundant_mux.specs.Memory.{FrameLog}
-pub use Rattle.script_text.specs.Lines.{first_line}
+pub use Rattle.script_text.specs.Lines.{after_mark, first_line}
 unfoldable pub use Rattle.script_text.specs.Meaning.{counted}
 pub use Rattle.script_text.specs.Meaning.{HasFew, meaning_of}
 pub use Rattle.script_text.specs.Transcript.{ends_writing, note_of, streams}

@@ -1,5 +1,5 @@
 -- A poll of an emitter, over what was taken of its sub-VLs and what is left.
-use Rattle.tx_script.proofs.Names.{ℕ, ◌≡◌, ◌≢◌, ◌-◌, ◌+◌, ◌<◌, ◌≤◌, List, ◌++◌, Bool, true, false, nat_lt, length, append-nil, arith, refl, ap, ◌∙◌, subst, inr, ⊎_elim, Result, Ok, Err, OnOk, OnErr, cases_eq, le-ltb, length-append, length-map, map-append, link_plan_at, LinkPlan, Net, A, B, Sent, Entry, Logged, sent_to, Lines, log, Keeps, IsMirrored, Pace, Served, Nothing, Released, Lost, Turn, AreTurns, IsChoice, Held, LinkState, held_at, link_at, Starts, GivesFrame, held_view, sent_of, IsSameLink, taken_by, taken_finds, choice_other, turn_seen, turns_seen, turns_each, Release, pace_in, IsTurn, IsTurnAt, IsRun, Tx, taken_in, total_in, PortView, IsTold, Progress, EndSystem, started, SendsFrame, progress_view, HasTurnAt, HasPolled, AtBench, IsPlannedLink, progress_of, MatchesTx, Obeys, OnlyTakes, leaves}
+use Rattle.tx_script.proofs.Names.{ℕ, ◌≡◌, ◌≢◌, ◌-◌, ◌<◌, ◌≤◌, List, ◌++◌, Bool, true, false, nat_lt, length, append-nil, arith, refl, ap, ◌∙◌, subst, inr, ⊎_elim, Result, Ok, Err, OnOk, OnErr, cases_eq, le-ltb, length-append, length-map, map-append, link_plan_at, LinkPlan, Net, A, B, Sent, Entry, Logged, sent_to, Lines, log, Keeps, IsMirrored, Pace, Served, Nothing, Released, Lost, Turn, AreTurns, IsChoice, Held, LinkState, held_at, link_at, Starts, GivesFrame, held_view, sent_of, IsSameLink, taken_by, taken_finds, choice_other, turn_seen, turns_seen, turns_each, Release, pace_in, IsTurn, IsTurnAt, IsRun, Tx, taken_in, total_in, PortView, IsTold, Progress, EndSystem, started, SendsFrame, progress_view, HasTurnAt, HasPolled, AtBench, IsPlannedLink, progress_of, MatchesTx, Obeys, OnlyTakes, leaves}
 use Rattle.script_text.specs.declared.line_meaning.Line.TheVariants as Said
 use Rattle.script_text.specs.declared.transcript.Outcome.TheVariants as Became
 use Rattle.tx_script.proofs.Matched.{asked_on, same_totals}

@@ -1,5 +1,5 @@
 -- How a run goes on, how its lines end, and how it ends once its streams are written.
-use Rattle.tx_script.proofs.Names.{◌≡◌, ℕ, ◌+◌, ◌*◌, ◌<◌, ◌≤◌, List, [], ◌∷◌, append-nil, Option, Some, None, refl, ap, sym, ◌∙◌, subst, arith, true, inl, inr, ◌++◌, IfSome, Ok, Err, Result, Appends, Appends-nil, Appends-trans, All-cons, All-head, All-tail, IfSome_then, Plan, Tx, first_line, meaning_of, counted, HasFew, note_of, streams, ends_writing, Outcome, RunFault, AtBench, IsFreshBench, Obeys, OnlyTakes, ClosesOnly, AreTold, TellsTotal, IsGathered, AnsweredLine, Play, play, ClosesAt, transcript, left_after, AreRun, HasPlayed, IsWhole, Plays, Ends, Leaves, SaysLine, ReadsLine, Running, Halted, Stops, HandsOver, Finishes, EndsEarly, false≢true, FrameLog, Played, Whole, Broken, Said, Sums}
+use Rattle.tx_script.proofs.Names.{◌≡◌, ℕ, ◌+◌, ◌*◌, ◌<◌, ◌≤◌, List, [], ◌∷◌, append-nil, Option, Some, None, refl, sym, ◌∙◌, subst, arith, true, inl, inr, ◌++◌, IfSome, Ok, Err, Result, Appends, Appends-nil, Appends-trans, All-cons, All-head, All-tail, IfSome_then, Plan, Tx, first_line, after_mark, meaning_of, counted, HasFew, note_of, streams, ends_writing, Outcome, RunFault, AtBench, IsFreshBench, Obeys, OnlyTakes, ClosesOnly, AreTold, TellsTotal, IsGathered, AnsweredLine, Play, play, ClosesAt, transcript, left_after, AreRun, HasPlayed, IsWhole, Plays, Ends, Leaves, SaysLine, ReadsLine, Running, Halted, Stops, HandsOver, Finishes, EndsEarly, false≢true, FrameLog, Played, Whole, Broken, Said, Sums}
 use Rattle.script_text.specs.declared.faults.RunFault.TheVariants as Fault
 use Rattle.tx_script.proofs.Matched.{same_totals, each_fresh}
 use Rattle.tx_script.proofs.Finding.{finds_first, totals_are}
@@ -46,6 +46,17 @@ running_none plan (Some text) old bench is_fresh = record {
     others = λ place sub none. (each_fresh plan bench.tx is_fresh.tx place sub).1;
     wrote = Appends-nil old;
   };
+}
+
+-- a text of which no line was read
+pub stops_unread : (plan : Plan) (bytes old : Option (List ℕ)) (bench : AtBench) → IsFreshBench plan bench
+    → IfSome bytes (λ text. Stops plan (after_mark text) old old bench (Err Fault.Read))
+unfolding running_none
+stops_unread plan None old bench is_fresh = tt
+stops_unread plan (Some text) old bench is_fresh = record {
+  turns = [];
+  ran = (running_none plan (Some (after_mark text)) old bench is_fresh).ran;
+  at = grind arith;
 }
 
 -- What closes reported stays so.
@@ -177,10 +188,8 @@ pub plays_by : (plan own : Plan) (bytes given old mid fin : Option (List ℕ)) (
 plays_by plan own bytes given old mid fin bench ended played same is stops plays = grind arith
 
 -- An allocation failed before the first line.
-pub plays_none : (plan : Plan) (bytes old : Option (List ℕ))
-    → IfSome bytes (λ text. Plays plan text old old (Broken Fault.Memory))
-plays_none plan None old = tt
-plays_none plan (Some text) old = (
+plays_nothing : (plan : Plan) (text : List ℕ) (old : Option (List ℕ)) → Plays plan text old old (Broken Fault.Memory)
+plays_nothing plan text old = (
   refl,
   record {
     turns = [];
@@ -191,3 +200,9 @@ plays_none plan (Some text) old = (
     wrote = Appends-nil old;
   },
 )
+
+-- An allocation failed before a reader gave its first byte.
+pub plays_none : (plan : Plan) (bytes old : Option (List ℕ))
+    → IfSome bytes (λ text. Plays plan (after_mark text) old old (Broken Fault.Memory))
+plays_none plan None old = tt
+plays_none plan (Some text) old = plays_nothing plan (after_mark text) old

@@ -1,9 +1,8 @@
 -- Obeying a line that sends a message.
-use Rattle.tx_script.proofs.Names.{ℕ, ◌≡◌, ◌≢◌, ◌≤◌, ◌<◌, ◌+◌, ◌==◌, inl, inr, List, [], length, set, get_or, refl, ap, ◌∙◌, sym, arith, append-nil, Option, Some, None, eq-eqb, position-Some, Plan, port_plan_at, PortPlan, SenderView, IsRefused, Tx, PortView, Refuses, QueueRefuses, length_refusal, Line, Send, Refusal, Empty, TooLong, Closed, Full, NoPort, Outcome, HasFew, AtBench, IsAtHand, Matches, Sends, Obeys, ObeysAt, EndSystem, Answer, Messages, takes, closes, fills, place_of, passed_on, queued, script_refusal, outcome_of, QueueWhy, SendRefusal}
+use Rattle.tx_script.proofs.Names.{ℕ, ◌≡◌, ◌≢◌, ◌≤◌, ◌<◌, ◌+◌, ◌==◌, inl, inr, List, [], length, set, get_or, refl, arith, append-nil, Option, Some, None, eq-eqb, position-Some, Plan, port_plan_at, PortPlan, SenderView, IsRefused, Tx, PortView, Refuses, QueueRefuses, length_refusal, Line, Send, Refusal, Empty, TooLong, Closed, Full, NoPort, Outcome, HasFew, AtBench, IsAtHand, Matches, Sends, Obeys, ObeysAt, EndSystem, Answer, Messages, takes, closes, fills, place_of, passed_on, queued, script_refusal, outcome_of, QueueWhy, SendRefusal}
 use Rattle.subvl_queue.specs.declared.sender.Why.TheVariants as Queue
 use Rattle.afdx_tx.specs.declared.fault.Refusal.TheVariants as Why
 use Rattle.script_text.specs.declared.transcript.Outcome.TheVariants as Became
-use Rattle.tx_script.specs.Play.{sent_to}
 use Rattle.tx_script.proofs.Matched.{sent_at_hand, asked_more, have_sent, same_totals}
 
 -- a sender but for its counts of requests and of loads of the closed flag, and what it found

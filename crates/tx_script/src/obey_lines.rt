@@ -1,11 +1,13 @@
 //! Obeying the lines of a script.
 ghost use Rattle.std.specs.Prelude.{◌≡◌, IfSome};
+ghost use Rattle.script_text.specs.Lines.{after_mark};
 ghost use Rattle.tx_script.specs.AtBench.{IsFreshBench};
 ghost use Rattle.tx_script.specs.Running.{ReadsLine, Stops, run_fault_of};
 
 use crate::bench::{Bench, obey};
 use script_text::{
-    Bytes, Line, LineFault, Next, ReadFault, RunFault, Summary, next_line, read_line, write_note,
+    Bytes, Line, LineFault, Next, ReadFault, RunFault, Summary, next_line, read_line, skip_mark,
+    write_note,
 };
 use std::alloc::Global;
 use std::io::{Read, Write};
@@ -45,9 +47,28 @@ fn next_said<R: Read + Drop>(
     }
 }
 
+/// Obeys the lines of a script at a fresh bench, and writes their notes. The script may begin with a byte order mark.
+#[tactic(auto, using(crate::proofs::RunLemmas::stops_unread))]
+pub fn obey_script<R: Read + Drop, W: Write>(
+    alloc: Global,
+    mut reader: R,
+    bench: &mut Bench,
+    writer: &mut W,
+) -> Result<Summary, RunFault>
+    requires { IsFreshBench bench.old.tx.plan bench.old }
+    ensures { IfSome (R.remaining reader) (λ text. Stops bench.old.tx.plan (after_mark text)
+        (W.contents writer.old) (W.contents writer.new) bench.new result) }
+{
+    let Ok(front) = skip_mark(&mut reader) else {
+        return Err(RunFault::Read);
+    };
+    let mut bytes = Bytes::new(front.as_slice().chain(reader));
+    obey_lines(alloc, &mut bytes, bench, writer)
+}
+
 /// Obeys the lines of a reader at a fresh bench, and writes their notes.
 #[tactic(auto, using(crate::proofs::RunLemmas::running_none))]
-pub fn obey_lines<R: Read + Drop, W: Write>(
+fn obey_lines<R: Read + Drop, W: Write>(
     alloc: Global,
     bytes: &mut Bytes<R>,
     bench: &mut Bench,

@@ -1,13 +1,14 @@
 //! Running a script.
 ghost use Rattle.std.specs.Prelude.{IfSome};
+ghost use Rattle.script_text.specs.Lines.{after_mark};
 ghost use Rattle.tx_script.specs.Run.{Leaves, Plays};
 ghost use Rattle.tx_script.specs.Running.{Finishes, EndsEarly};
 
 use crate::bench::Bench;
-use crate::obey_lines::obey_lines;
+use crate::obey_lines::obey_script;
 use afdx_plan::Config;
 use redundant_mux::FrameLog;
-use script_text::{Bytes, RunFault, Summary, write_streams};
+use script_text::{RunFault, Summary, write_streams};
 use std::alloc::Global;
 use std::io::{Read, Write};
 
@@ -51,21 +52,20 @@ fn end_early<W: Write>(writer: &mut W, bench: Bench, fault: RunFault) -> Played
 
 /// Runs a script as `run_script` does, and also returns the two networks if the transcript is written
 /// whole.
-#[tactic(auto, using(crate::proofs::RunLemmas::finished, crate::proofs::RunLemmas::early, crate::proofs::RunLemmas::plays_by, crate::proofs::RunLemmas::plays_none))]
+#[tactic(auto, using(crate::proofs::RunLemmas::finished, crate::proofs::RunLemmas::early, crate::proofs::RunLemmas::plays_by))]
 pub fn play_script<R: Read + Drop, W: Write>(
     alloc: Global,
     config: Config,
     reader: R,
     writer: &mut W,
 ) -> Played
-    ensures { IfSome (R.remaining reader) (λ text. Plays config text
+    ensures { IfSome (R.remaining reader) (λ text. Plays config (after_mark text)
         (W.contents writer.old) (W.contents writer.new) result) }
 {
     let Ok(mut bench) = Bench::open(alloc, config) else {
         return Played::Broken(RunFault::Memory);
     };
-    let mut bytes = Bytes::new(reader);
-    match obey_lines(alloc, &mut bytes, &mut bench, writer) {
+    match obey_script(alloc, reader, &mut bench, writer) {
         Ok(summary) => write_handed(writer, bench, Ok(summary)),
         Err(fault) => end_early(writer, bench, fault),
     }
@@ -73,7 +73,7 @@ pub fn play_script<R: Read + Drop, W: Write>(
 
 /// Runs a script over a plan and two networks in memory, and writes its transcript: the notes on lines that were
 /// refused or closed a sub-VL, in their order, the frames of network A, and the frames of B. A script has at most
-/// 1,000,000 lines of at most 20,000 bytes each.
+/// 1,000,000 lines of at most 20,000 bytes each. A byte order mark before the first line is no part of it.
 ///
 /// A line's fault, `Lines` and `Read` end the run there: the lines before it were run, and their notes and frames are
 /// written. `Write`, when the writer failed, and `Memory` end the writing; what was written before `Memory` begins the
@@ -84,7 +84,7 @@ pub fn run_script<R: Read + Drop, W: Write>(
     reader: R,
     writer: &mut W,
 ) -> Result<Summary, RunFault>
-    ensures { IfSome (R.remaining reader) (λ text. Leaves config text
+    ensures { IfSome (R.remaining reader) (λ text. Leaves config (after_mark text)
         (W.contents writer.old) (W.contents writer.new) result) }
 {
     match play_script(alloc, config, reader, writer) {

@@ -1,4 +1,4 @@
-use Rattle.tx_script.proofs.Names.{sym, ◌∙◌, arith}
+use Rattle.tx_script.proofs.Names.{arith}
 use Rattle.tx_script.proofs.Polling.{released_many, poll_takes, obeys_poll}
 use Rattle.tx_script.proofs.Sending.{at_bench}
 use Rattle.tx_script.proofs.bench.obey_at.Goals as goal

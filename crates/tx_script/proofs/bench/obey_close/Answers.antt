@@ -1,4 +1,4 @@
-use Rattle.tx_script.proofs.Names.{arith, refl}
+use Rattle.tx_script.proofs.Names.{arith}
 use Rattle.tx_script.proofs.Closing.{obeys_close, obeys_lack}
 use Rattle.tx_script.proofs.Sending.{at_bench}
 use Rattle.tx_script.proofs.bench.obey_close.Goals as goal
