@@ -1,6 +1,7 @@
 //! The reasons for which calls are refused.
 use afdx_plan::Config;
 use redundant_mux::Network;
+use std::fmt;
 use thiserror::Error;
 
 /// The reasons for which a port refuses a message. The length is checked first, then the queue of the port's sub-VL.
@@ -48,10 +49,19 @@ pub enum PollFault {
 pub struct NoSuchSub;
 
 /// An allocation failed. The arguments are returned unchanged.
-#[derive(Debug, Drop, Error)]
+#[derive(Drop, Error)]
 #[error("out of memory")]
 pub struct OpenFault<A: Network + Drop, B: Network + Drop> {
     pub config: Config,
     pub a: A,
     pub b: B,
+}
+
+/// Shows the plan alone, so that the networks need no `Debug`.
+impl<A: Network + Drop, B: Network + Drop> fmt::Debug for OpenFault<A, B> {
+    fn fmt<W: fmt::Write>(&self, f: &mut fmt::Formatter<W>) -> fmt::Result {
+        let mut shown = f.debug_struct("OpenFault");
+        shown.field("config", &self.config);
+        shown.finish_non_exhaustive()
+    }
 }
