@@ -2,7 +2,7 @@
    that requests or frees any, but those that end. Opened from a plan's table, it takes what afdx_memory says of that, and
    makes the frames of the one that is opened from the text.
 
-   tests/c/c_library.py builds and runs it. With the path of a folder it writes 40 plans there, and prints what an end
+   tests/c/c_library.py builds and runs it. With the path of a folder it writes 41 plans there, and prints what an end
    system of each holds. */
 #include "afdx.h"
 
@@ -40,16 +40,16 @@ static void check_memory(void) {
 }
 
 /* The bytes that opening holds for a moment above what it keeps: docs/guide/embedding.md. */
-enum { MOST_CHOSEN = 30, MOST_LISTS = 10256 };
+enum { MOST_CHOSEN = 30, MOST_LISTS = 10256, MOST_CELLS = 8 + 6 * 65 + 11 * AFDX_MOST_PORTS };
 
-/* A plan that numbers choose, of which each is made from the one before, its table, and the bytes that an end system of
-   it holds. */
+/* A plan, its table, and the bytes that an end system of it holds. Numbers choose a plan, of which each is made from the one
+   before. */
 struct chosen {
     uint32_t number;
-    char text[16000];
-    uint8_t table[1000];
-    size_t end, length, bytes, links;
-    uint16_t ports;
+    char text[64000];
+    uint8_t table[2 * MOST_CELLS + 4];
+    size_t end, length, bytes;
+    uint16_t links, ports;
 };
 
 /* Appends numbers of 16 bits to the table. */
@@ -60,15 +60,49 @@ static void puts_cells(struct chosen *it, const int *cells, size_t count) {
     }
 }
 
-/* Appends the check to the table, as docs/guide/table.md has it, and writes how many ports it has. */
-static void ends_table(struct chosen *it) {
+/* Begins a plan without links. */
+static void begins(struct chosen *it) {
+    it->bytes = it->links = it->ports = 0;
+    memcpy(it->table, "AFDXPLAN", it->length = 8);
+    puts_cells(it, (int[]){1, 7, 0, 0}, 4);
+    it->end = (size_t)snprintf(it->text, sizeof it->text, "version = 2\n[end_system]\nid = 7\n");
+}
+
+/* Adds a link, whose identifier is its place. */
+static void adds_link(struct chosen *it, int sub_vls, int capacity) {
+    it->end += (size_t)snprintf(it->text + it->end, sizeof it->text - it->end,
+        "[[vl]]\nid = %d\nbag_ms = 1\nlmax = 1518\nsub_vls = %d\ncapacity = %d\n", it->links, sub_vls, capacity);
+    puts_cells(it, (int[]){it->links, 1, 1518, sub_vls, capacity, 0}, 6);
+    it->links++;
+}
+
+/* Adds a port, after all links. */
+static void adds_port(struct chosen *it, int id, int vl, int sub, int size) {
+    it->end += (size_t)snprintf(it->text + it->end, sizeof it->text - it->end,
+        "[[port]]\nid = %d\nvl = %d\nsub = %d\npartition = 1\nkind = \"queuing\"\nsource = %d\ndestination = 2\nmax = %d\n",
+        id, vl, sub, 1000 + it->ports, size);
+    puts_cells(it, (int[]){id, vl, sub, 1, 1, 1000 + it->ports, 2, size, 0, 0, 0}, 11);
+    it->ports++;
+}
+
+/* Appends the check to a table of this length, as docs/guide/table.md has it. */
+static void puts_check(struct chosen *it, size_t length) {
     uint32_t sum = UINT32_MAX;
-    it->table[15] = (uint8_t)it->ports;
-    for (size_t k = 0; k < it->length; k++) {
+    for (size_t k = 0; k < length; k++) {
         sum ^= it->table[k];
         for (int bit = 0; bit < 8; bit++) sum = sum >> 1 ^ (sum & 1 ? 0xedb88320 : 0);
     }
+    it->length = length;
     puts_cells(it, (int[]){(int)(~sum >> 16), (int)(~sum & 0xffff)}, 2);
+}
+
+/* Ends a plan: the table gets its numbers of links and ports, and its check. */
+static void ends(struct chosen *it) {
+    size_t length = it->length;
+    it->length = 12;
+    puts_cells(it, (int[]){it->links, it->ports}, 2);
+    it->bytes += held(it->links, it->ports);
+    puts_check(it, length);
 }
 
 static int up_to(struct chosen *it, int greatest) {
@@ -79,12 +113,9 @@ static int up_to(struct chosen *it, int greatest) {
 static void adds_ports(struct chosen *it, int vl, int sub, int capacity) {
     int greatest = 0;
     uint16_t before = it->ports;
-    for (int many = up_to(it, 4) - 1; many > 0 && it->ports < MOST_CHOSEN; many--, it->ports++) {
+    for (int many = up_to(it, 4) - 1; many > 0 && it->ports < MOST_CHOSEN; many--) {
         int size = up_to(it, up_to(it, 2) == 1 ? 64 : 8192);
-        it->end += (size_t)snprintf(it->text + it->end, sizeof it->text - it->end,
-            "[[port]]\nid = %d\nvl = %d\nsub = %d\npartition = 1\nkind = \"queuing\"\nsource = %d\ndestination = 2\nmax = %d\n",
-            it->ports, vl, sub, 1000 + it->ports, size);
-        puts_cells(it, (int[]){it->ports, vl, sub, 1, 1, 1000 + it->ports, 2, size, 0, 0, 0}, 11);
+        adds_port(it, it->ports, vl, sub, size);
         if (size > greatest) greatest = size;
     }
     it->bytes += of_sub_vl((size_t)capacity, (size_t)(it->ports - before), (size_t)greatest);
@@ -92,22 +123,24 @@ static void adds_ports(struct chosen *it, int vl, int sub, int capacity) {
 
 static void choose(struct chosen *it) {
     int links = up_to(it, 6), sub_vls[6], capacities[6];
-    it->bytes = it->ports = 0;
-    memcpy(it->table, "AFDXPLAN", it->length = 8);
-    puts_cells(it, (int[]){1, 7, links, 0}, 4);
-    it->links = (size_t)links;
-    it->end = (size_t)snprintf(it->text, sizeof it->text, "version = 2\n[end_system]\nid = 7\n");
+    begins(it);
     for (int k = 0; k < links; k++) {
         sub_vls[k] = up_to(it, 4);
         capacities[k] = up_to(it, 256);
-        it->end += (size_t)snprintf(it->text + it->end, sizeof it->text - it->end,
-            "[[vl]]\nid = %d\nbag_ms = 1\nlmax = 1518\nsub_vls = %d\ncapacity = %d\n", k, sub_vls[k], capacities[k]);
-        puts_cells(it, (int[]){k, 1, 1518, sub_vls[k], capacities[k], 0}, 6);
+        adds_link(it, sub_vls[k], capacities[k]);
     }
     for (int k = 0; k < links; k++)
         for (int sub = 0; sub < sub_vls[k]; sub++) adds_ports(it, k, sub, capacities[k]);
-    it->bytes += held((size_t)links, it->ports);
-    ends_table(it);
+    ends(it);
+}
+
+/* Chooses the greatest plan: each sub-VL of 64 links has a port. */
+static void choose_greatest(struct chosen *it, int capacity) {
+    begins(it);
+    for (int k = 0; k < AFDX_MOST_LINKS; k++) adds_link(it, 4, capacity);
+    for (int k = 0; k < AFDX_MOST_PORTS; k++) adds_port(it, k, k / 4, k % 4, 8192);
+    it->bytes = AFDX_MOST_PORTS * of_sub_vl((size_t)capacity, 1, 8192);
+    ends(it);
 }
 
 /* The frames of a network that the last polls of two end systems made are the same. */
@@ -121,6 +154,12 @@ static void are_same(const afdx_end_system *one, const afdx_end_system *two, uin
     CHECK(memcmp(frames[0], frames[1], all) == 0);
 }
 
+/* The bytes that an end system holds that is opened from its table, whose lists have no room to spare. */
+static size_t held_of_table(const struct chosen *plan) {
+    size_t links = plan->links < 4 ? 4 - plan->links : 0, ports = plan->ports < 4 ? 4 - plan->ports : 0;
+    return plan->bytes - 24 * links - 32 * ports;
+}
+
 /* Opened from its table, a plan takes just what afdx_memory says, and makes the frames of the one from the text. */
 static void check_table(const struct chosen *plan, afdx_end_system *by_text) {
     static const uint8_t message[8192] = {1, 2, 3};
@@ -128,9 +167,7 @@ static void check_table(const struct chosen *plan, afdx_end_system *by_text) {
     afdx_port ports[2] = {{0}};
     uint8_t standing[2] = {7, 8};
     size_t before = bytes, taken = 7;
-    size_t spare = (plan->links < 4 ? 24 * (4 - plan->links) : 0) + (plan->ports < 4 ? 32 * (size_t)(4 - plan->ports) : 0);
-    CHECK(afdx_memory(plan->table, plan->length, &taken) == AFDX_OK && taken == plan->bytes - spare && bytes == before);
-    CHECK(afdx_memory(plan->table, plan->length - 1, &taken) == AFDX_WRONG_LENGTH && taken == plan->bytes - spare);
+    CHECK(afdx_memory(plan->table, plan->length, &taken) == AFDX_OK && taken == held_of_table(plan) && bytes == before);
     most = bytes;
     CHECK(afdx_open_table(&by_table, plan->table, plan->length) == AFDX_OK && bytes - before == taken);
     CHECK(most - before <= taken + MOST_LISTS);
@@ -228,7 +265,7 @@ static void check_calls(void) {
    of each length, refused ones among them, closing, gathering and draining. */
 static void keeps(afdx_end_system *it, const struct chosen *plan) {
     static const uint8_t message[8192] = {1};
-    afdx_port ports[MOST_CHOSEN] = {{0}};
+    afdx_port ports[AFDX_MOST_PORTS] = {{0}};
     size_t asked = requests, freed = frees;
     uint64_t now = 0, total = 0;
     uint8_t standing = 7, done = 0;
@@ -256,27 +293,142 @@ static void show(const char *folder, int number, const struct chosen *plan) {
     printf("plan %d: %zu bytes\n", number, bytes);
 }
 
-/* 400 plans: the formula is exact, and memory is taken at opening alone. Shows every tenth if a folder is given. */
+/* The formula is exact, and memory is taken at opening alone. Shows the plan if a folder is given. */
+static void check_plan(const struct chosen *plan, const char *folder, int number) {
+    afdx_end_system it = {0};
+    open_plan(&it, plan->text);
+    CHECK(bytes == plan->bytes);
+    if (folder != NULL) show(folder, number, plan);
+    keeps(&it, plan);
+    CHECK(bytes == plan->bytes && afdx_free(&it) == AFDX_OK && blocks == 0 && bytes == 0);
+    open_plan(&it, plan->text);
+    check_table(plan, &it);
+    CHECK(bytes == plan->bytes && afdx_free(&it) == AFDX_OK && blocks == 0 && bytes == 0);
+}
+
+/* 400 plans and the greatest, which holds most with queues of 256 messages. Shows every tenth, and the greatest. */
 static void check_kept(const char *folder) {
     static struct chosen plan = {.number = 7};
+    size_t taken = 7;
     for (int times = 0; times < 400; times++) {
-        afdx_end_system it = {0};
         do choose(&plan);
         while (plan.ports == 0);
-        open_plan(&it, plan.text);
-        CHECK(bytes == plan.bytes);
-        if (folder != NULL && times % 10 == 0) show(folder, times, &plan);
-        keeps(&it, &plan);
-        CHECK(bytes == plan.bytes && afdx_free(&it) == AFDX_OK && blocks == 0 && bytes == 0);
-        open_plan(&it, plan.text);
-        check_table(&plan, &it);
-        CHECK(bytes == plan.bytes && afdx_free(&it) == AFDX_OK && blocks == 0 && bytes == 0);
+        check_plan(&plan, times % 10 == 0 ? folder : NULL, times);
     }
+    choose_greatest(&plan, 2);
+    check_plan(&plan, folder, 400);
+    choose_greatest(&plan, 256);
+    CHECK(afdx_memory(plan.table, plan.length, &taken) == AFDX_OK && taken == plan.bytes && taken > 540000000);
+}
+
+/* Opens a plan of `links` links from its table, whose one port sends a message of its greatest length. */
+static void sends(int links, int id, int size) {
+    static const uint8_t message[8192] = {1};
+    static struct chosen plan;
+    afdx_end_system it = {0};
+    afdx_port port = {0};
+    uint8_t standing = 7;
+    begins(&plan);
+    for (int k = 0; k < links; k++) adds_link(&plan, 1, 1);
+    adds_port(&plan, id, links - 1, 0, size);
+    plan.bytes = of_sub_vl(1, 1, (size_t)size) + (size_t)(links - 1) * of_sub_vl(1, 0, 0);
+    ends(&plan);
+    CHECK(afdx_open_table(&it, plan.table, plan.length) == AFDX_OK && bytes == held_of_table(&plan));
+    CHECK(afdx_port_of(&it, (uint16_t)id, &port) == AFDX_OK && afdx_send(&port, message, (size_t)size) == AFDX_OK);
+    CHECK(afdx_poll(&it, 0, &standing) == AFDX_OK && standing == (AFDX_A_STANDS | AFDX_B_STANDS));
+    CHECK(afdx_free_port(&port) == AFDX_OK);
+    CHECK(afdx_free(&it) == AFDX_OK && blocks == 0 && bytes == 0);
+}
+
+/* Each greatest length of a message, with the last identifiers of ports, and each number of links. */
+static void check_one_port(void) {
+    for (int size = 1; size <= 8192; size++) sends(1, UINT16_MAX + 1 - size, size);
+    for (int links = 1; links <= AFDX_MOST_LINKS; links++) sends(links, links, 1);
+}
+
+/* Returns the answer to a table, which both calls give. A table that is refused leaves nothing. */
+static uint8_t reads(const struct chosen *plan) {
+    afdx_end_system it = {0};
+    size_t taken = 7;
+    uint8_t answer = afdx_memory(plan->table, plan->length, &taken);
+    CHECK(blocks == 0 && bytes == 0 && (answer == AFDX_OK || taken == 7));
+    CHECK(afdx_open_table(&it, plan->table, plan->length) == answer && it.held == (answer == AFDX_OK));
+    if (it.held) CHECK(bytes == taken && afdx_free(&it) == AFDX_OK);
+    CHECK(blocks == 0 && bytes == 0);
+    return answer;
+}
+
+/* Overwrites a number of the table, and the check. Returns the number that was there. */
+static int sets(struct chosen *it, size_t cell, int value) {
+    size_t length = it->length;
+    int before = it->table[2 * cell] << 8 | it->table[2 * cell + 1];
+    it->length = 2 * cell;
+    puts_cells(it, &value, 1);
+    puts_check(it, length - 4);
+    return before;
+}
+
+/* Each request for memory that is refused leaves nothing, and the call with memory has this answer. */
+static void refuses_each(const struct chosen *plan, uint8_t wanted) {
+    for (int opens = 0; opens < 2; opens++) {
+        uint8_t answer = AFDX_MEMORY;
+        for (long asked = 0; answer == AFDX_MEMORY; asked++) {
+            afdx_end_system it = {0};
+            size_t taken = 7;
+            refused_in = asked;
+            answer = opens ? afdx_open_table(&it, plan->table, plan->length) : afdx_memory(plan->table, plan->length, &taken);
+            bool is_refused = refused_in < 0;
+            refused_in = -1;
+            CHECK(answer == (is_refused ? AFDX_MEMORY : wanted) && (is_refused || asked > 2));
+            CHECK(it.held == (opens && answer == AFDX_OK) && (answer == AFDX_OK || taken == 7));
+            if (it.held) CHECK(afdx_free(&it) == AFDX_OK);
+            CHECK(blocks == 0 && bytes == 0);
+        }
+    }
+}
+
+/* A table that is refused, by each fault, or a request of which is, leaves nothing. */
+static void check_refused(void) {
+    static struct chosen plan;
+    size_t seen[AFDX_WRONG_VALUE + 1] = {0};
+    begins(&plan);
+    for (int k = 0; k < 2; k++) adds_link(&plan, 2, 2);
+    for (int k = 0; k < 5; k++) adds_port(&plan, k, k / 2 == 0 ? 0 : 1, k % 2, 2000);
+    ends(&plan);
+    /* a port on each link has an address of its own */
+    for (size_t port = 0; port < 4; port += 2)
+        for (size_t k = 0; k < 2; k++) sets(&plan, 8 + 2 * 6 + 11 * port + 8 + k, k == 0 ? 10 * 256 : 1 + (int)port);
+    refuses_each(&plan, AFDX_OK);
+    for (size_t cell = 0; 2 * cell < plan.length - 4; cell++) {
+        int before = plan.table[2 * cell] << 8 | plan.table[2 * cell + 1];
+        for (int k = 0; k < 6; k++) {
+            sets(&plan, cell, (int[]){0, 1, 2, UINT16_MAX, before + 1, before - 1}[k]);
+            seen[reads(&plan)]++;
+        }
+        sets(&plan, cell, before);
+    }
+    for (size_t k = 0, whole = plan.length; k < whole; k++) {
+        plan.table[k] ^= 1;
+        seen[reads(&plan)]++;
+        plan.table[k] ^= 1;
+        plan.length = k;
+        seen[reads(&plan)]++;
+        plan.length = whole;
+    }
+    sets(&plan, 8 + 2, 0);
+    refuses_each(&plan, AFDX_WRONG_VALUE);
+    begins(&plan);
+    for (int k = 0; k <= AFDX_MOST_LINKS; k++) adds_link(&plan, 1, 1);
+    ends(&plan);
+    seen[reads(&plan)]++;
+    for (size_t k = AFDX_CONFIG_DUPLICATE_VL; k <= AFDX_WRONG_VALUE; k++) CHECK((seen[k] > 0) == (k != AFDX_MEMORY));
 }
 
 int main(int count, char **words) {
     check_memory();
     check_kept(count > 1 ? words[1] : NULL);
     check_calls();
+    check_one_port();
+    check_refused();
     return end_of_checks();
 }
