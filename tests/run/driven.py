@@ -3,6 +3,7 @@ one network, closes and drains, opened from the plan's text or from its table. `
 import random
 import struct
 import zlib
+from collections.abc import Iterator
 
 import model
 import receiving
@@ -26,12 +27,12 @@ def said(call, *words) -> str:
 
 
 class Driven(model.EndSystem):
-    """The model and an end system of one plan, whose ports are all taken."""
+    """The model and an end system of one plan, whose ports are all taken. It is opened from the plan's table or from its text."""
 
-    def __init__(self, plan: model.Table, rng: random.Random) -> None:
+    def __init__(self, plan: model.Table, rng: random.Random, of_table: bool) -> None:
         super().__init__(plan)
         self.text = text_of(plan, rng)
-        self.it = afdx.EndSystem.of_table(model.table_of(plan)) if rng.randrange(2) else afdx.EndSystem(self.text)
+        self.it = afdx.EndSystem.of_table(model.table_of(plan)) if of_table else afdx.EndSystem(self.text)
         self.out = {number: self.it.port(number) for number in self.ports}
         self.accepted = dict.fromkeys(self.ports, 0)
         self.recorded: dict[str, list[tuple[int, bytes]]] = {name: [] for name in model.NETWORKS}
@@ -96,7 +97,7 @@ def run(seed: int) -> bool:
     """A random run over a random plan, in which networks may fail before the drain and in it. Returns whether all was sent."""
     rng = random.Random(seed)
     plan, now = random_plan(rng), rng.choice((0, 0, 10**6, afdx.NEVER - 40_000))
-    driven, fails_at = Driven(plan, rng), {name: rng.randrange(240) for name in "AB"}
+    driven, fails_at = Driven(plan, rng, rng.random() < 0.5), {name: rng.randrange(240) for name in "AB"}
     for turn in range(120):
         for name in (name for name, at in fails_at.items() if at == turn):
             driven.fail(name)
@@ -151,22 +152,49 @@ def size(ports: int) -> model.Table:
     return {"end_system": {"id": 1}, "vl": vl, "port": [table | {"destination": 2000, "max": 8192} for table in port]}
 
 
+def greatest() -> model.Table:
+    """The greatest plan with a port on each sub-VL, whose queues have room for two messages."""
+    plan = size(256)
+    vl = [link | {"capacity": 2} for link in plan["vl"]]
+    return plan | {"vl": vl, "port": [port | {"vl": port["id"] % 64, "sub": port["id"] // 64} for port in plan["port"]]}
+
+
+def plans() -> Iterator[tuple[model.Table, list[tuple[int, bytes]]]]:
+    """Plans of all sizes, each with messages of its ports: one of each length, and more than there is room for in all queues that
+    have ports of the plan of 256 ports on a link."""
+    lengths = iter(range(1, 8193))
+    for ports in range(1, 256):
+        yield size(ports), [(port, bytes((port,)) * next(lengths, 1)) for port in range(ports)]
+    yield size(256), [(port, bytes((port,)) * (8192 if port == 255 else 1)) for port in range(256)] * 5
+    yield greatest(), [(port, bytes((port,)) * (8192 - port)) for port in range(256)]
+
+
 def capture(packets: list[tuple[int, bytes]]) -> bytes:
     """A capture of packets with their times in microseconds."""
     heads = (struct.pack("<IIII", *divmod(at, 10**6), len(data), len(data)) + data for at, data in packets)
     return struct.pack("<IHHIIII", 0xA1B2C3D4, 2, 4, 0, 0, 65_535, 1) + b"".join(heads)
 
 
+def transmitted(it: afdx.EndSystem, sent: list[tuple[int, bytes]], last: int) -> dict[str, list[tuple[int, bytes]]]:
+    """What an end system transmits of messages that its ports send at first, polled each millisecond up to the last time."""
+    for number, message in sent:
+        with it.port(number) as port:
+            port.try_send(message)
+    polls = [(at, it.poll(at)) for at in range(0, last + 1, 1000)]
+    return {"A": [(at, frame) for at, poll in polls for frame in poll.a], "B": [(at, frame) for at, poll in polls for frame in poll.b]}
+
+
 def sizes() -> None:
-    """Runs over plans of all sizes, with messages of each length. The judge finds nothing in their recordings, and something in
-    each of 120,000 packets of 160 bytes."""
-    lengths = [*range(8192, 0, -1)]
-    for ports in range(1, 257):
-        it = Driven(size(ports), random.Random(ports))
-        # (of the greatest plan all queues with ports are filled)
-        for number in [*it.ports] * (5 if ports == 256 else 1):
-            it.send(number, bytes(lengths.pop() if lengths else 8192 if number == 255 else 1))
+    """Runs over plans of all sizes, with messages of each length. End systems from the text and from the table transmit the same.
+    The judge finds nothing in their recordings, and something in each packet of 160 bytes."""
+    for plan, sent in plans():
+        it = Driven(plan, random.Random(len(sent)), of_table=True)
+        for number, message in sent:
+            it.send(number, message)
         it.at(0)
-        check(it.drain(1000, 2000), ports)
-        check(not afdx.judge(it.text, *map(capture, it.recorded.values())), ports)
-    check(len(afdx.judge(it.text, capture([(0, bytes(160))] * 120_000))) == 120_000)
+        check(it.drain(1000, 2000), len(sent))
+        with afdx.EndSystem(it.text) as other:
+            check(transmitted(other, sent, it.now) == it.recorded, len(sent))
+        check(not afdx.judge(it.text, *map(capture, it.recorded.values())), len(sent))
+    for many in (65_536, 120_000):
+        check(len(afdx.judge(it.text, capture([(0, bytes(160))] * many))) == many)
