@@ -27,7 +27,7 @@ sys.path[:0] = [f"{ROOT}/tests", HERE, f"{ROOT}/tests/explain"]
 import model  # noqa: E402
 import rows  # noqa: E402
 import trying  # noqa: E402
-from planting import text_of  # noqa: E402
+from planting import plan_of, text_of  # noqa: E402
 from rows import Row  # noqa: E402
 
 
@@ -169,10 +169,8 @@ def checksums() -> Iterator[tuple[str, str, bytes]]:
     yield "long and short messages, with and without", plan, "\n".join(lines).encode()
 
 
-def table_faults(seed: int) -> list[str]:
-    """What is wrong with the table of a random plan, as bytes and in a file of C, and with the ends of both commands."""
-    rng = random.Random(seed)
-    plan = random_plan(rng)
+def table_faults(plan: model.Table, rng: random.Random) -> list[str]:
+    """What is wrong with the table of a plan, as bytes and in a file of C, and with the ends of both commands."""
     with open("table.toml", "w", encoding="utf-8") as file:
         file.write(text_of(plan, rng))
     wanted = model.table_of(plan)
@@ -182,7 +180,14 @@ def table_faults(seed: int) -> list[str]:
     listed = bytes(int(number, 16) for number in re.findall(r"0x([0-9a-f]{2}),", source))
     ends = [(it.returncode, it.stdout, it.stderr) for it in told]
     is_well = ends == [(0, wanted, b""), (0, b"", b"")] and listed == wanted and "const uint8_t afdx_plan_table[] = {\n" in source
-    return [] if is_well else [f"seed {seed}: {ends}\n{source[:500]}\nfor {wanted.hex()}"]
+    return [] if is_well else [f"{ends}\n{source[:500]}\nfor {wanted.hex()}"]
+
+
+def tables() -> list[str]:
+    """What is wrong with the tables of 40 random plans and of one with the most links and ports."""
+    rng = random.Random("tables")
+    plans = [*(random_plan(rng) for _ in range(40)), plan_of(rng, 64, 256, 2)]
+    return [fault for plan in plans for fault in table_faults(plan, rng)]
 
 
 def main() -> int:
@@ -212,7 +217,7 @@ def main() -> int:
         tries.attempt("each script of one to five lines", lambda: (all_faults(model_faults, every_script()), ""))
         tries.attempt(f"{count} random scripts over random plans", lambda: (all_faults(model_faults, random_runs(count)), ""))
         tries.attempt("messages of each length, and of each two bytes", lambda: (all_faults(model_faults, checksums()), ""))
-        tries.attempt("tables of 40 random plans", lambda: ([fault for seed in range(40) for fault in table_faults(seed)], ""))
+        tries.attempt("tables of 40 random plans and of one with the most links", lambda: (tables(), ""))
     return tries.end()
 
 
