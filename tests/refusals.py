@@ -1,13 +1,14 @@
 #!/usr/bin/env python3
-"""Refuses requests for memory of the built program, and its writes or its standard output.
+"""Refuses requests for memory of the built programs, and writes of the bench or its standard output.
 
     python3 tests/refusals.py
 
-It runs what `rt ci` has built, the program `afdx_bench` as each compiler makes it, with `tests/refuse.c` preloaded: a
-run for each request for memory or for a thread, which is refused, until a run makes fewer requests. Each run has to end
-as is promised, with no signal. Likewise each write of the program fails once, and the program may try no other after it.
-Each run has to free all its memory, and for 10,000 messages more it makes few requests but one for each. The last line
-is 'N passed, M failed', and the exit status 0 exactly if nothing failed.
+It runs what `rt ci` has built, the programs `afdx_bench`, and `part_calls`, which makes each call of the library that
+takes memory and then those that take none, as each compiler makes them, with `tests/refuse.c` preloaded: a run for each
+request for memory or for a thread, which is refused, until a run makes fewer requests. Each run has to end as is
+promised, with no signal. Likewise each write of the bench fails once, and it may try no other after it. Each run has to
+free all its memory, and for 10,000 messages more it makes few requests but one for each. The last line is 'N passed,
+M failed', and the exit status 0 exactly if nothing failed.
 """
 import errno
 import os
@@ -21,7 +22,7 @@ from itertools import pairwise
 
 # (no compiled copy is left beside the scripts)
 sys.dont_write_bytecode = True
-from refusals_wanted import CLOSED, COMMANDS, FILES, WRITTEN
+from refusals_wanted import CLOSED, COMMANDS, FILES, WRITTEN, part_calls
 from trying import ROOT, Tries, built, compiler, started
 
 # How many runs are begun together, and after how many requests something is wrong.
@@ -91,7 +92,7 @@ def tried_case(bench, program, case):
     for number, ran in enumerate(sweep(bench, program, case), 1):
         way = case.way(ran)
         # (a storm that has no memory ends before its threads do)
-        if way is None or (ran.left and (way, case.words[0]) != ("out of memory", "storm")):
+        if way is None or (ran.left and (way, case.words[:1]) != ("out of memory", ["storm"])):
             faults.append(f"request {number} refused: {ran}")
         ways[way] = ways.get(way, 0) + 1
     if not ran.requests:
@@ -153,6 +154,8 @@ def main():
     tries = Tries()
     with tempfile.TemporaryDirectory(prefix="refusals-") as room:
         bench = Bench(room)
+        for build, program in built("part_calls").items():
+            tries.attempt(f"part_calls by {build}", lambda: tried_case(bench, program, part_calls()))
         for build, program in built("afdx_bench").items():
             for case in COMMANDS:
                 tries.attempt(f"{case.name} by {build}", lambda: tried_case(bench, program, case))

@@ -2,7 +2,7 @@
 import sys
 import tomllib
 
-from trying import DEMO, HELP, ONE_FRAME, REPORT, ROOT, SCRIPT, WRONG, totals
+from trying import DEMO, HELP, ONE_FRAME, REPORT, ROOT, SCRIPT, WRONG, text_of, totals
 
 sys.path += [f"{ROOT}/tests/run", f"{ROOT}/tests/report"]
 import expected
@@ -47,6 +47,22 @@ class Case:
             if any(ran.ended(self.status, out, self.err) for out in outputs):
                 return name if ran.is_refused or name == "answered" else None
         return None
+
+
+class Shown(Case):
+    """Runs in which each refusal shows: calls that take no memory make no request."""
+
+    def way(self, ran):
+        name = super().way(ran)
+        return None if ran.is_refused and name == "answered" else name
+
+
+def part_calls():
+    """Calls of the library: one that is out of memory is made once more, and then has the answer that is wanted."""
+    text = text_of("crates/part_calls/stdout")
+    names = [line.partition(":")[0] for line in text.splitlines()]
+    again = {f"{name} again": [text.replace(f"{name}:", f"{name}: out of memory\n{name}:")] for name in names}
+    return Shown("part_calls", [], {"answered": [text], **again}, again)
 
 
 def command(words, text, given=b"", others=None, many=1, status=0, err=""):
