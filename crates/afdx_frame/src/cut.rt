@@ -1,12 +1,12 @@
 //! A message, cut into frames, one piece per call.
-ghost use Rattle.std.specs.Prelude.{◌≡◌, ℕ, ◌+◌, ◌≤◌, ◌<◌, ◌-◌, ◌%◌, ◌↔◌, length, [], ◌∷◌, List, IsTrue, true, false, IfSome, MatchOption, vec_len};
+ghost use Rattle.std.specs.Prelude.{◌≡◌, ℕ, ◌+◌, ◌≤◌, ◌<◌, ◌-◌, ◌%◌, ◌↔◌, length, [], ◌∷◌, List, IsTrue, true, false, IfSome, MatchOption, vec_len, vec_capacity};
 ghost use Rattle.afdx_frame.specs.Checksum.{word_sum};
 ghost use Rattle.afdx_plan.specs.Plan.{IsPort, SendsOver, room_of};
 ghost use Rattle.afdx_frame.specs.Frame.{frame_of, greatest_message, greatest_datagram};
 ghost use Rattle.afdx_frame.specs.Header.{IsFrameOf};
 ghost use Rattle.afdx_frame.specs.Fragments.{blanked, fragments_at, fragments_left};
 ghost use Rattle.afdx_frame.specs.declared.net.Net.{Net as Network};
-ghost use Rattle.afdx_frame.specs.Cutting.{cut_of, cutting, pieces_from, pieces_left, piece_at, SameMessage, TakesFirst, whole, written, Remains, IsCut, Cutting};
+ghost use Rattle.afdx_frame.specs.Cutting.{cut_of, cutting, pieces_from, pieces_left, piece_at, SameMessage, TakesFirst, whole, uncut, written, Remains, IsCut, Held};
 
 use crate::buffer::FrameBuffer;
 use crate::field::Piece;
@@ -38,7 +38,7 @@ impl Model for Rest {
     ghost invariant = { λ r. IsCut r.end r.start };
 }
 
-/// A message of a port at a place of its sub-VL, given frame by frame.
+/// A message of a port at a place of its sub-VL, given frame by frame. No call allocates.
 #[derive(Drop)]
 pub struct Cut {
     port: PortPlan,
@@ -47,9 +47,12 @@ pub struct Cut {
 }
 
 impl Model for Cut {
-    ghost Value = { Cutting };
+    ghost Value = { Held };
 
-    ghost view = { λ c. cut_of c.port c.bytes.items c.rest };
+    ghost view = { λ c. record {
+      cut = cut_of c.port c.bytes.items c.rest;
+      capacity = vec_capacity c.bytes;
+    } };
 
     ghost invariant = { λ c. IsPort c.port × (c.rest.end ≡ 8 + length c.bytes.items) };
 }
@@ -168,9 +171,10 @@ impl Cut {
         requires port { IsPort port.now }
         requires some { 1 ≤ vec_len bytes }
         requires most { vec_len bytes ≤ greatest_message }
-        ensures message { (result.port ≡ port.now) × (result.place ≡ place) × (result.bytes ≡ bytes.items) }
-        ensures pieces { (room : ℕ) → pieces_left room result ≡ pieces_from 0 (cutting room (8 + length bytes.items)) }
-        ensures fragments { (end_system room : ℕ) (net : Network) → fragments_left end_system room net result
+        ensures message { result.cut ≡ uncut port.now place bytes.items }
+        ensures memory { result.capacity ≡ vec_capacity bytes }
+        ensures pieces { (room : ℕ) → pieces_left room result.cut ≡ pieces_from 0 (cutting room (8 + length bytes.items)) }
+        ensures fragments { (end_system room : ℕ) (net : Network) → fragments_left end_system room net result.cut
             ≡ fragments_at end_system room net place (record { port = port.now; bytes = bytes.items }) }
     {
         let rest = Rest::new(bytes.len(), place);
@@ -183,7 +187,7 @@ impl Cut {
 
     /// Returns true if all pieces were given.
     pub fn is_done(&self) -> bool
-        ensures { (room : ℕ) → IsTrue result ↔ (pieces_left room self.now ≡ []) }
+        ensures { (room : ℕ) → IsTrue result ↔ (pieces_left room self.now.cut ≡ []) }
     {
         self.rest.is_done()
     }
@@ -197,14 +201,16 @@ impl Cut {
         number: u8,
         net: Net,
     ) -> Option<Frame>
-        requires { SendsOver self.old.port link.now }
+        requires { SendsOver self.old.cut.port link.now }
         ensures frame { TakesFirst (λ piece frame. frame.items ≡ frame_of
-            end_system self.old.port self.old.bytes self.old.place piece net number)
-            (pieces_left (room_of link.now.lmax) self.old) result (pieces_left (room_of link.now.lmax) self.new) }
-        ensures same { SameMessage self.old self.new }
-        ensures fragments { MatchOption result (fragments_left end_system (room_of link.now.lmax) net self.old ≡ [])
-            (λ frame. fragments_left end_system (room_of link.now.lmax) net self.old ≡ blanked frame.items
-            ∷ fragments_left end_system (room_of link.now.lmax) net self.new) }
+            end_system self.old.cut.port self.old.cut.bytes self.old.cut.place piece net number)
+            (pieces_left (room_of link.now.lmax) self.old.cut) result
+            (pieces_left (room_of link.now.lmax) self.new.cut) }
+        ensures same { SameMessage self.old.cut self.new.cut }
+        ensures memory { self.new.capacity ≡ self.old.capacity }
+        ensures fragments { MatchOption result (fragments_left end_system (room_of link.now.lmax) net self.old.cut ≡ [])
+            (λ frame. fragments_left end_system (room_of link.now.lmax) net self.old.cut ≡ blanked frame.items
+            ∷ fragments_left end_system (room_of link.now.lmax) net self.new.cut) }
     {
         let template = Template::new(end_system, &self.port);
         let mut frame = FrameBuffer::new();

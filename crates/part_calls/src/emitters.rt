@@ -77,8 +77,8 @@ fn demo_flow(alloc: Global) -> Result<(PortPlan, LinkPlan), AllocError>
 /// Sends the next frame of a message to two networks, and returns whether there was one, and both took it.
 #[tactic(auto, using(afdx_frame::proofs::Twins::twin_twice))]
 fn is_handed(cut: &mut Cut, link: &LinkPlan, number: u8, mux: &mut Mux<Outbox, Outbox>) -> bool
-    requires { SendsOver cut.old.port link.now }
-    ensures { cut.new.port ≡ cut.old.port }
+    requires { SendsOver cut.old.cut.port link.now }
+    ensures { cut.new.cut.port ≡ cut.old.cut.port }
 {
     let Some(frame) = cut.next_frame(link, 1, number, Net::A) else {
         return false;
