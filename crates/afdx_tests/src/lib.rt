@@ -17,6 +17,8 @@ mod pausing_tests;
 #[cfg(test)]
 mod rig;
 #[cfg(test)]
+mod sending_tests;
+#[cfg(test)]
 mod step_tests;
 #[cfg(test)]
 mod storm_tests;
