@@ -2,7 +2,9 @@
 use crate::rig::Step::*;
 use crate::rig::*;
 use crate::testing::*;
+use afdx_plan::ConfigFault;
 use afdx_tx::{NoSuchSub, PollFault, Refusal};
+use plan_table::TableFault;
 use std::fmt::{Display, InlineText};
 
 /// A plan, the hands, counted from 1, at which its networks fail, and steps; then polls in the drain, with the time of
@@ -126,6 +128,16 @@ const REFUSALS: [(Refusal, u8, &str); 5] = [
     (Refusal::Full, 5, "Full"),
 ];
 
+// The reasons for which a table is refused.
+const TABLE_FAULTS: [(TableFault, u8, &str); 6] = [
+    (TableFault::Plan(ConfigFault::Limit), 14, "Limit"),
+    (TableFault::NoTable, 16, "NoTable"),
+    (TableFault::OtherLayout, 17, "OtherLayout"),
+    (TableFault::WrongLength, 18, "WrongLength"),
+    (TableFault::WrongSum, 19, "WrongSum"),
+    (TableFault::WrongValue, 20, "WrongValue"),
+];
+
 // Asserts the text that is printed for a value.
 fn assert_text(rt: &impl Abort, told: impl Display + Drop, wanted: &str) {
     assert_same(rt, InlineText::<16>::of(told).as_str(), wanted);
@@ -136,6 +148,10 @@ fn each_fault_of_a_call_has_its_number_and_its_name(rt: HostRuntime) {
     for &(refusal, number, name) in &REFUSALS {
         assert_same(&rt, refusal as u8, number);
         assert_text(&rt, refusal, name);
+    }
+    for &(fault, number, name) in &TABLE_FAULTS {
+        assert_same(&rt, fault.number(), number);
+        assert_text(&rt, fault, name);
     }
     assert_same(&rt, PollFault::BothDown as u8, 1);
     assert_text(&rt, PollFault::BothDown, "BothDown");
