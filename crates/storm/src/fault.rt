@@ -22,9 +22,11 @@ pub enum StormFault {
 }
 
 /// The reasons for which the totals of a storm aren't written: it gives no report, or the writer fails.
-#[derive(Clone, Copy, Debug, PartialEq, Eq)]
+#[derive(Clone, Copy, Debug, PartialEq, Eq, Error)]
 pub enum ThrowFault {
+    #[error(transparent)]
     Storm(StormFault),
+    #[error("write failed")]
     Write,
 }
 
