@@ -91,6 +91,8 @@ static void want(bool holds, const char *what) {
     exit(1);
 }
 
+static void sends(uint16_t port, size_t bytes) { want((answer = afdx_send(&ports[port], message, bytes)) == AFDX_OK, "send"); }
+
 /* Opens an end system of so many links, with a port for each of their sub-VLs. One port of each link is taken, and sends so
    many bytes, none if 0. */
 static void begin(unsigned links, size_t bytes) {
@@ -100,11 +102,20 @@ static void begin(unsigned links, size_t bytes) {
     want((answer = afdx_open_table(&it, table, table_of(links, sub_vls))) == AFDX_OK, "open");
     for (uint16_t k = 0; k < links; k++) {
         want((answer = afdx_port_of(&it, (uint16_t)(k * sub_vls + sub_vls - 1), &ports[k])) == AFDX_OK, "port");
-        if (bytes > 0) want((answer = afdx_send(&ports[k], message, bytes)) == AFDX_OK, "send");
+        if (bytes > 0) sends(k, bytes);
     }
 }
 
 static void polls(uint64_t at) { want((answer = afdx_poll(&it, now = at, &standing)) == AFDX_OK, "poll"); }
+
+/* Polls links of which each sent 8,192 bytes until all is sent, so that each buffer has held a long frame. Then each link sends
+   `bytes` bytes. */
+static void begin_after_long(unsigned links, size_t bytes) {
+    begin(links, 8192);
+    for (uint64_t k = 0; k < 6; k++) polls(1000 * k);
+    for (uint16_t k = 0; k < links; k++) sends(k, bytes);
+    now = 6000;
+}
 
 static void returns_all(unsigned links) {
     for (unsigned k = 0; k < links; k++) want((answer = afdx_give_back(&it, &ports[k])) == AFDX_OK, "give back");
@@ -122,6 +133,20 @@ static void one_long(void) { begin(1, 8192); }
 static void one_cut(void) { begin(1, 8192), polls(0), now = 1000; }
 static void all_bytes(void) { begin(64, 1); }
 static void all_long(void) { begin(64, 8192); }
+static void all_summed(void) { udp_sums = 1, begin(64, 8192), udp_sums = 0; }
+static void one_short(void) { begin_after_long(1, 1); }
+static void all_short(void) { begin_after_long(64, 1); }
+/* The messages of neighbouring links have other lengths, and those of a link from poll to poll. */
+static void mixed(void) {
+    static const size_t various[] = {1, 1471, 17, 300, 700, 1200, 60};
+    enum { LENGTHS = sizeof various / sizeof *various };
+    begin(64, 0);
+    for (unsigned turn = 0; turn <= LENGTHS; turn++) {
+        if (turn > 0) polls(1000 * turn);
+        for (uint16_t k = 0; k < 64; k++) sends(k, various[(k + turn) % LENGTHS]);
+    }
+    now += 1000;
+}
 static void all_cut(void) { begin(64, 8192), polls(0), now = 1000; }
 static void all_sent(void) { begin(64, 1), polls(0), now = 500; }
 static void long_sent(void) { begin(64, 8192), polls(0); }
@@ -159,10 +184,14 @@ static void nothing(void) { used = 0; }
     CASE(poll_1_whole, one_byte, afdx_poll(&it, now, &standing), AFDX_OK) \
     CASE(poll_1_first, one_long, afdx_poll(&it, now, &standing), AFDX_OK) \
     CASE(poll_1_later, one_cut, afdx_poll(&it, now, &standing), AFDX_OK) \
+    CASE(poll_1_short, one_short, afdx_poll(&it, now, &standing), AFDX_OK) \
     CASE(poll_64_whole, all_bytes, afdx_poll(&it, now, &standing), AFDX_OK) \
     CASE(poll_64_last, all_last, afdx_poll(&it, now, &standing), AFDX_OK) \
     CASE(poll_64_first, all_long, afdx_poll(&it, now, &standing), AFDX_OK) \
+    CASE(poll_64_first_summed, all_summed, afdx_poll(&it, now, &standing), AFDX_OK) \
     CASE(poll_64_later, all_cut, afdx_poll(&it, now, &standing), AFDX_OK) \
+    CASE(poll_64_short, all_short, afdx_poll(&it, now, &standing), AFDX_OK) \
+    CASE(poll_64_mixed, mixed, afdx_poll(&it, now, &standing), AFDX_OK) \
     CASE(poll_drain_64, gathered, afdx_poll(&it, now, &standing), AFDX_OK) \
     CASE(next_due, all_sent, afdx_next_due(&it, &total), AFDX_OK) \
     CASE(frames, long_sent, afdx_frames(&it, AFDX_A, &count), AFDX_OK) \

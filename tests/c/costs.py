@@ -28,6 +28,13 @@ def above(measured, index):
     return lost + [f"{name}: {cost}, not {told[name][index]}" for name, cost in measured.items() if name in told and not 0 < cost <= told[name][index]]
 
 
+def dearer(measured):
+    """A poll of messages with UDP checksums that costs over 1.15 of the same poll without. Each send has summed its message, so
+    a poll has to add some words of headers alone."""
+    first, summed = (measured[name] for name in ("poll_64_first", "poll_64_first_summed"))
+    return [f"poll_64_first_summed: {summed}, poll_64_first: {first}"] if summed > 1.15 * first else []
+
+
 def stack_of(run):
     """The bytes of stack of each case, by what the program printed."""
     return {name: int(cost) for name, cost in re.findall(r"(?m)^(\w+) (\d+)$", run.stdout)}
@@ -63,4 +70,6 @@ def try_costs(tries, room, compiled, ran, is_proved):
         return
     out = f"{room}/callgrind.out"
     run = ran(["valgrind", "--tool=callgrind", "--compress-strings=no", "--compress-pos=no", f"--callgrind-out-file={out}", path, "steps"], room, 3600)
-    tries.show(f"instructions of {len(cases())} cases", [run.stderr[-2000:]] if run.returncode else above(steps_of(out), 1))
+    measured = {} if run.returncode else steps_of(out)
+    tries.show(f"instructions of {len(cases())} cases", above(measured, 1) if measured else [run.stderr[-2000:]])
+    tries.show("instructions of a poll with UDP checksums", dearer(measured) if measured else ["not measured"])
