@@ -4,7 +4,6 @@ use afdx_plan::Config;
 use csv::{ByteRecord, ReaderBuilder};
 use script_text::number;
 use std::alloc::{AllocError, Global};
-use std::fmt;
 use thiserror::Error;
 
 /// The greatest period, the greatest jitter and the greatest deadline, in microseconds.
@@ -45,18 +44,9 @@ pub struct Traffic {
 
 /// A fault of a traffic text: its line from 1, the name of its column, if there is a column with a name, and the kind
 /// of fault. `Display` prints its line of the report.
-#[derive(Drop)]
+#[derive(Debug, Drop, Error)]
+#[error("line {0}{comma}{column}: {2}", comma = .1.map_or("", |_| ", "), column = .1.unwrap_or(""))]
 pub struct TrafficFault(pub u64, pub Option<&'static str>, pub Wrong);
-
-impl fmt::Display for TrafficFault {
-    fn fmt<W: fmt::Write>(&self, f: &mut fmt::Formatter<W>) -> fmt::Result {
-        let TrafficFault(line, column, wrong) = self;
-        match column {
-            Some(column) => write!(f, "line {line}, {column}: {wrong}"),
-            None => write!(f, "line {line}: {wrong}"),
-        }
-    }
-}
 
 /// The kinds of faults of a traffic text. Texts of cells are cut, and have no control characters.
 #[derive(Debug, Drop, Error)]
