@@ -124,7 +124,7 @@ def tables() -> None:
     """A table is opened as its plan; each fault of a table is raised, and that of its plan."""
     import model
     table = model.table_of(tomllib.loads(DEMO) | {"version": 2})
-    check(afdx.memory(table) == 200729 + 304 + 424 + 312 + 40 * 2 + (2 + 1 + 1) * 8192)
+    check(afdx.memory(table) == 207953 + 304 + 424 + 312 + 40 * 2 + (2 + 1 + 1) * 8192)
     raises(afdx.NoTable, afdx.memory, b"")
     with EndSystem.of_table(table) as it, EndSystem(DEMO) as other:
         for end in (it, other):

@@ -73,7 +73,7 @@ def partitions_of(plan: Plan) -> str:
 def memory_of(plan: Plan) -> int:
     """The bytes of an end system, by the formula of docs/guide/c.md."""
     links, ports = len(plan["vl"]), len(plan["port"])
-    own = 200729 + 280 * links + 24 * max(4, links) + 392 * ports + 32 * max(4, ports)
+    own = 207953 + 280 * links + 24 * max(4, links) + 392 * ports + 32 * max(4, ports)
     return own + sum(int(row[-1]) for row in memory_rows(plan))
 
 

@@ -68,7 +68,7 @@ network    load-kbit/s  share-%  exceeded  jitter-ns
    10     1   0         6          17000      166.666
  link sub capacity ports partitions greatest         bytes
     1   0        2     1          1     8192         33160
-memory 234785 bytes
+memory 242009 bytes
 """,
     (UNEQUAL, 250): """\
 loads within limits, jitter within limits, deadlines not given, queues not judged, sub-VLs of several partitions: 1
@@ -91,7 +91,7 @@ network    load-kbit/s  share-%  exceeded  jitter-ns
     1   2        3     0          0        0           432
     1   3        3     1          1      200          1432
     2   0        1     1          1       41           475
-memory 212284 bytes
+memory 219508 bytes
 """,
 }
 

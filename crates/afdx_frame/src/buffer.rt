@@ -19,6 +19,9 @@ pub struct FrameBuffer {
     pub(crate) len: usize,
     // Full until the frame leaves the buffer, and overwritten in place: a vector blanks what is cut off.
     pub(crate) bytes: ArrayVec<u8, GREATEST_FRAME>,
+    // Unused. The buffer and the word that malloc of glibc keeps before it fill 25 lines of the cache, so that the frames
+    // of all buffers begin at the same place of a line, and are copied faster.
+    pad: [u64; 7],
 }
 
 impl Model for FrameBuffer {
@@ -66,6 +69,7 @@ impl FrameBuffer {
         FrameBuffer {
             bytes: ArrayVec::from_array_in((), [0; GREATEST_FRAME]),
             len: 0,
+            pad: [0; 7],
         }
     }
 
@@ -100,7 +104,7 @@ impl FrameBuffer {
     pub fn into_frame(self) -> Frame
         ensures { result.items ≡ self.items }
     {
-        let FrameBuffer { len, mut bytes } = self;
+        let FrameBuffer { len, mut bytes, .. } = self;
         bytes.truncate(len);
         bytes
     }

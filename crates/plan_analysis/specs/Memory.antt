@@ -34,7 +34,7 @@ sub_bytes capacity ports greatest = 312 + 40 * capacity + (capacity + 1 + ports)
 -- the bytes of an end system outside its sub-VLs, whose lists have room for so many links and ports
 abbrev pub base_bytes : (links ports link_room port_room : ℕ) → ℕ
 base_bytes links ports link_room port_room =
-    200729 + 280 * links + 24 * link_room + 392 * ports + 32 * port_room
+    207953 + 280 * links + 24 * link_room + 392 * ports + 32 * port_room
 
 -- the row of a sub-VL of a link
 abbrev pub sub_row : List PortPlan → LinkPlan → ℕ → SubRow

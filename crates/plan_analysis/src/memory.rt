@@ -104,7 +104,7 @@ fn base_bytes(config: &Config, link_room: u64, port_room: u64) -> u64
 {
     let links = config.links().len() as u64;
     let ports = config.ports().len() as u64;
-    200_729 + 280 * links + 24 * link_room + 392 * ports + 32 * port_room
+    207_953 + 280 * links + 24 * link_room + 392 * ports + 32 * port_room
 }
 
 /// Lists the rows of the sub-VLs of all links.
