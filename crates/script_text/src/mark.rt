@@ -9,7 +9,8 @@ use std::io::Read;
 
 /// Takes the next byte of a reader; `None` at the end.
 fn next_of<R: Read>(reader: &mut R) -> io::Result<Option<u8>>
-    ensures taken { IfOk result (λ byte. Consumes (R.remaining reader.old) (R.remaining reader.new) (option_to_list byte)) }
+    ensures taken { IfOk result (λ byte.
+        Consumes (R.remaining reader.old) (R.remaining reader.new) (option_to_list byte)) }
     ensures ended { IfOk result (λ byte. byte ≡ None → IsAtEnd (R.remaining reader.new)) }
 {
     let mut byte = [0];
