@@ -1,5 +1,5 @@
 //! The buffer of a frame, which is overwritten in place.
-ghost use Rattle.std.specs.Prelude.{◌≡◌, ℕ, ◌≤◌, List, [], length, take, ◌+◌, ◌++◌, nat_le, if◌then◌else◌};
+ghost use Rattle.std.specs.Prelude.{◌≡◌, ◌≤◌, [], length, take, ◌+◌, ◌++◌};
 ghost use Rattle.afdx_frame.specs.Header.{twin_of};
 ghost use Rattle.arrayvec.specs.ArrayVec.{array_vec_len};
 ghost use Rattle.afdx_frame.specs.declared.net.TheConstants.{GREATEST_FRAME};
