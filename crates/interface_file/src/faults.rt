@@ -3,7 +3,6 @@ ghost use Rattle.std.specs.Prelude.{◌≡◌, ◌<◌, OnOk};
 
 use crate::columns::name_of;
 use std::alloc::{AllocError, Global};
-use std::fmt;
 use thiserror::Error;
 
 /// The most faults that are kept.
@@ -11,24 +10,12 @@ const FAULTS_LIMIT: usize = 1_000;
 
 /// A fault of an interface document: its row, from 1, the place of its column in `COLUMNS`, if there is one, and the
 /// kind of fault. `Display` prints its line.
-#[derive(Debug, Drop)]
+#[derive(Debug, Drop, Error)]
+#[error("row {row}{comma}{name}: {wrong}", comma = .column.map_or("", |_| ", "), name = .column.map_or("", name_of))]
 pub struct DocumentFault {
     pub row: u64,
     pub column: Option<usize>,
     pub wrong: Wrong,
-}
-
-impl fmt::Display for DocumentFault {
-    fn fmt<W: fmt::Write>(&self, f: &mut fmt::Formatter<W>) -> fmt::Result {
-        let row = self.row;
-        write!(f, "row {row}")?;
-        if let Some(place) = self.column {
-            let name = name_of(place);
-            write!(f, ", {name}")?;
-        }
-        let wrong = &self.wrong;
-        write!(f, ": {wrong}")
-    }
 }
 
 /// The kinds of faults of an interface document. Texts of cells are cut, and have no control characters.
