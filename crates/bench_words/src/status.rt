@@ -4,8 +4,8 @@ ghost use Rattle.bench_words.specs.Status.{exit_status, failure_status as status
 
 use afdx_plan::ConfigFault;
 use script_text::{RunFault, Summary};
-use std::error::Error;
 use std::fmt;
+use thiserror::Error;
 
 /// The end of a run of the program.
 #[derive(Clone, Copy, Debug, PartialEq, Eq)]
@@ -53,30 +53,26 @@ fn failure_status(failure: &Failure) -> u8
 }
 
 /// A failure that ends a command early. `Display` prints the message for standard error.
-#[derive(Clone, Copy, Debug, PartialEq, Eq)]
+#[derive(Clone, Copy, Debug, PartialEq, Eq, Error)]
 pub enum Failure {
     /// The plan was refused.
+    #[error(fmt = tell_refused)]
     Config(ConfigFault),
     /// The script has a fault; or, in any command, an allocation, a read or a write failed.
+    #[error(transparent)]
     Run(RunFault),
     /// The greatest message of a port is too short for the messages of a storm.
+    #[error("storm refused: a port's max is below 6")]
     Short,
     /// A storm exhausted its turns.
+    #[error("turns used up")]
     Turns,
 }
 
-impl fmt::Display for Failure {
-    fn fmt<W: fmt::Write>(&self, f: &mut fmt::Formatter<W>) -> fmt::Result {
-        match self {
-            Failure::Config(ConfigFault::Memory) => fmt::Display::fmt(&RunFault::Memory, f),
-            Failure::Config(fault) => {
-                write!(f, "configuration refused: {} {fault}", fault.number())
-            }
-            Failure::Run(fault) => fmt::Display::fmt(fault, f),
-            Failure::Short => f.write_str("storm refused: a port's max is below 6"),
-            Failure::Turns => f.write_str("turns used up"),
-        }
+/// Writes the message of a refused plan. Memory that ran out says nothing of the plan.
+fn tell_refused<W: fmt::Write>(fault: &ConfigFault, f: &mut fmt::Formatter<W>) -> fmt::Result {
+    match fault {
+        ConfigFault::Memory => fmt::Display::fmt(&RunFault::Memory, f),
+        fault => write!(f, "configuration refused: {} {fault}", fault.number()),
     }
 }
-
-impl Error for Failure {}
