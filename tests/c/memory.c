@@ -358,26 +358,24 @@ static uint8_t reads(const struct chosen *plan) {
     return answer;
 }
 
-/* Overwrites a number of the table, and the check. Returns the number that was there. */
-static int sets(struct chosen *it, size_t cell, int value) {
+/* Overwrites a number of the table, and the check. */
+static void sets(struct chosen *it, size_t cell, int value) {
     size_t length = it->length;
-    int before = it->table[2 * cell] << 8 | it->table[2 * cell + 1];
     it->length = 2 * cell;
     puts_cells(it, &value, 1);
     puts_check(it, length - 4);
-    return before;
 }
 
 /* Each request for memory that is refused leaves nothing, and the call with memory has this answer. */
 static void refuses_each(const struct chosen *plan, uint8_t wanted) {
     for (int opens = 0; opens < 2; opens++) {
-        uint8_t answer = AFDX_MEMORY;
-        for (long asked = 0; answer == AFDX_MEMORY; asked++) {
+        bool is_refused = true;
+        for (long asked = 0; is_refused; asked++) {
             afdx_end_system it = {0};
             size_t taken = 7;
             refused_in = asked;
-            answer = opens ? afdx_open_table(&it, plan->table, plan->length) : afdx_memory(plan->table, plan->length, &taken);
-            bool is_refused = refused_in < 0;
+            uint8_t answer = opens ? afdx_open_table(&it, plan->table, plan->length) : afdx_memory(plan->table, plan->length, &taken);
+            is_refused = refused_in < 0;
             refused_in = -1;
             CHECK(answer == (is_refused ? AFDX_MEMORY : wanted) && (is_refused || asked > 2));
             CHECK(it.held == (opens && answer == AFDX_OK) && (answer == AFDX_OK || taken == 7));
@@ -390,7 +388,7 @@ static void refuses_each(const struct chosen *plan, uint8_t wanted) {
 /* A table that is refused, by each fault, or a request of which is, leaves nothing. */
 static void check_refused(void) {
     static struct chosen plan;
-    size_t seen[AFDX_WRONG_VALUE + 1] = {0};
+    size_t seen[UINT8_MAX + 1] = {0};
     begins(&plan);
     for (int k = 0; k < 2; k++) adds_link(&plan, 2, 2);
     for (int k = 0; k < 5; k++) adds_port(&plan, k, k / 2 == 0 ? 0 : 1, k % 2, 2000);
