@@ -6,7 +6,7 @@ import zlib
 from collections.abc import Iterator
 
 import model
-import receiving
+import receivers
 from test_run import random_line, random_plan, text_of
 from trying import check
 
@@ -108,7 +108,7 @@ def run(seed: int) -> bool:
     for name in rng.choice(("", "", "A", "B", "AB")):
         driven.fail(name)
     is_done = driven.drain(rng.choice((1000, 4000)), 60)
-    receiving.receive(driven.recorded, {vl: link.table for vl, link in driven.links.items()}, driven.sent, is_done, rng)
+    receivers.receive(driven.recorded, {vl: link.table for vl, link in driven.links.items()}, driven.sent, is_done, rng)
     return is_done
 
 
@@ -118,7 +118,7 @@ def long_run() -> None:
     for at in range(0, 600_000, 1000):
         driven.send(0, bytes(1))
         driven.at(at)
-    receiving.numbers(driven.recorded["A"], random.Random(2))
+    receivers.numbers(driven.recorded["A"], random.Random(2))
 
 
 def damaged(seed: int, many: int) -> dict[str, int]:
