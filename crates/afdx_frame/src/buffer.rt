@@ -19,8 +19,8 @@ pub struct FrameBuffer {
     pub(crate) len: usize,
     // Full until the frame leaves the buffer, and overwritten in place: a vector blanks what is cut off.
     pub(crate) bytes: ArrayVec<u8, GREATEST_FRAME>,
-    // Unused. The buffer and the word that malloc of glibc keeps before it fill 25 lines of the cache, so that the frames
-    // of all buffers begin at the same place of a line, and are copied faster.
+    // Unused. The buffer and the word that malloc of glibc keeps before it fill 25 lines of the cache, so the frames of
+    // all buffers begin at the same place of a line, and are copied faster.
     pad: [u64; 7],
 }
 

@@ -173,7 +173,8 @@ impl Cut {
         requires most { vec_len bytes ≤ greatest_message }
         ensures message { result.cut ≡ uncut port.now place bytes.items }
         ensures memory { result.capacity ≡ vec_capacity bytes }
-        ensures pieces { (room : ℕ) → pieces_left room result.cut ≡ pieces_from 0 (cutting room (8 + length bytes.items)) }
+        ensures pieces { (room : ℕ) →
+            pieces_left room result.cut ≡ pieces_from 0 (cutting room (8 + length bytes.items)) }
         ensures fragments { (end_system room : ℕ) (net : Network) → fragments_left end_system room net result.cut
             ≡ fragments_at end_system room net place (record { port = port.now; bytes = bytes.items }) }
     {
