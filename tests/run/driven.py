@@ -114,7 +114,7 @@ def run(seed: int) -> bool:
 
 def long_run() -> None:
     """A link whose numbers come twice, as receivers take it."""
-    driven = Driven(size(1), random.Random(1))
+    driven = Driven(size(1), random.Random(1), False)
     for at in range(0, 600_000, 1000):
         driven.send(0, bytes(1))
         driven.at(at)

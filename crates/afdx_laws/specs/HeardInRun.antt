@@ -31,7 +31,8 @@ pub record IsNextIn (held : Held) (item : ℕ × List ℕ) : Type 0 where
       ⊎ ((receiver.ports ≡ 1) × HasAs receiver.heard (length receiver.taken) item)
 
 -- sub-VL `s` of link `k` before a poll
-abbrev pub held_before : {plan : Plan} {now : ℕ} {lines after : Lines} → EmitterPolls plan now lines after → (k s : ℕ) → Held
+abbrev pub held_before : {plan : Plan} {now : ℕ} {lines after : Lines} → EmitterPolls plan now lines after → (k s : ℕ)
+    → Held
 held_before poll k s = held_at (link_at poll.old.links k).subs s
 
 -- Link `k` is due, and sub-VL `s` is the first in its turn, by the frames sent before.
@@ -40,7 +41,8 @@ pub record IsItsTurn (plan : Plan) (k s now : ℕ) (lines : Lines) : Type 0 wher
   pub first : turn_of (link_plan_at plan.links k).sub_vls (latest None (stream_at plan k lines)) 0 ≡ s
 
 -- The poll released the first fragment of this message of a sub-VL, and nothing else of the link.
-pub record ReleasesFirst (plan : Plan) (k now : ℕ) (held : Held) (item : ℕ × List ℕ) (lines after : Lines) : Type 0 where
+pub record ReleasesFirst (plan : Plan) (k now : ℕ) (held : Held) (item : ℕ × List ℕ) (lines after : Lines)
+    : Type 0 where
   pub frame : List ℕ
   pub rest : List (List ℕ)
   pub first : message_fragments held.of (length (taken_of held.seen)) (sent_of held.ports item) ≡ blanked frame ∷ rest
@@ -75,4 +77,5 @@ abbrev pub FindsSent : (now : ℕ) (tx : Tx) (port : PortView) (bytes : List ℕ
 FindsSent now tx port bytes sent after = IsSentNext (held_for tx port.plan) port.sender sent.sender
     → (held_for tx port.plan).left ≡ [] → IsItsTurn tx.plan (place_of tx port) port.plan.sub now tx.lines
     → any_up (link_plan_at tx.plan.links (place_of tx port)).networks after.lines ≡ true
-    → ReleasesFirst tx.plan (place_of tx port) now (held_for tx port.plan) (port.sender.port, bytes) tx.lines after.lines
+    → ReleasesFirst tx.plan (place_of tx port) now (held_for tx port.plan) (port.sender.port, bytes)
+    tx.lines after.lines

@@ -36,11 +36,11 @@ pub fn next_in_run()
 
 /// A message that was sent is found by the poll that comes to it.
 ///
-/// `Emitter::hear` tells the emitter of the messages that a port has sent. If the next message of a sub-VL is among them
-/// (`IsNextIn`), and the sub-VL has begun none, a poll at its turn releases its first fragment (`released`): the link is
-/// due, and the sub-VL is the first that is asked (`IsItsTurn`). Any other poll that comes to the sub-VL finds it too
-/// (`found`), which is the premise `FindsIt` of the waits. If a queue has one port, its next message is the one after
-/// those that were taken.
+/// `Emitter::hear` tells the emitter of the messages that a port has sent. If the next message of a sub-VL is among
+/// them (`IsNextIn`), and the sub-VL has begun none, a poll at its turn releases the first fragment (`released`): the
+/// link is due, and the sub-VL is the first that is asked (`IsItsTurn`). Any other poll that comes to the sub-VL finds
+/// the message too (`found`), which is the premise `FindsIt` of the waits. If a queue has one port, its next message is
+/// the one after those that were taken.
 ///
 /// `polling::finds_sent` is such a send, with such a poll. Without `hear`, the contracts of two ends on two threads
 /// can't say which of them came first.

@@ -12,6 +12,8 @@ place_of tx port = link_place tx.plan port.plan
 
 -- An emitter whose queue for a port was told of the port's messages; all else is unchanged.
 pub record HearsTx (old : Tx) (port : PortView) (new : Tx) : Type 0 where
-  pub same : new ≡ record old { links = slice_set old.links (place_of old port) (link_at new.links (place_of old port)) }
+  pub same : new ≡ record old {
+    links = slice_set old.links (place_of old port) (link_at new.links (place_of old port));
+  }
   pub hears : ChangesSub (ChangesQueue (Hears port.sender)) port.plan.sub
       (link_at old.links (place_of old port)) (link_at new.links (place_of old port))

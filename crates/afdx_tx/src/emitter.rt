@@ -284,9 +284,10 @@ impl<A: Network + Drop, B: Network + Drop> Emitter<A, B> {
         }
     }
 
-    /// Tells the emitter of the messages that a port has sent. A poll that comes to the port's sub-VL then finds each of
-    /// them once it is the next, and not only one that happens to be ready. No message needs this call: it is for
-    /// whoever has both ends at hand, and states in a contract what a poll releases. Never waits, and allocates nothing.
+    /// Tells the emitter of the messages that a port has sent. A poll that comes to the port's sub-VL then finds each
+    /// of them once it is the next, and not only one that happens to be ready. No message needs this call: it is for a
+    /// caller who has both ends at hand, and states in a contract what a poll releases. Never waits, and allocates
+    /// nothing.
     pub fn hear(&mut self, port: &mut TxPort)
         requires opened { IsPortOfTx self.old port.old }
         ensures emitter { HearsTx self.old port.old self.new }

@@ -45,7 +45,8 @@ fn fill(port: &mut TxPort, messages: [Vec<u8>; 3]) -> Option<Vec<u8>> {
     }
 }
 
-/// Sends three messages, the last one of the list that was refused, and returns whether all are transmitted and counted.
+/// Sends three messages, the last one of the list that was refused, and returns whether all are transmitted and
+/// counted.
 pub fn try_emitter<R: Wait + Print>(rt: &R, alloc: Global) -> Tried {
     let first = Vec::from_elem(alloc, 1u8, 1)?;
     let second = Vec::from_elem(alloc, 2u8, 1)?;

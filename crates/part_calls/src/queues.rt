@@ -6,7 +6,8 @@ use crate::Tried;
 use std::alloc::Global;
 use subvl_queue::{Receiver, Room, Sender, Why, make};
 
-/// Sends a message of one byte, and returns whether it was accepted or, if there is no room, refused as by a full queue.
+/// Sends a message of one byte, and returns whether it was accepted or, if there is no room, refused as by a full
+/// queue.
 fn is_sent(sender: &mut Sender, has_room: bool) -> bool
     requires { sender.old.most ≡ 8192 }
     ensures { sender.new.most ≡ 8192 }

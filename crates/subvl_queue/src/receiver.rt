@@ -171,9 +171,9 @@ impl Receiver {
         total
     }
 
-    /// Tells the receiver of the messages that a sender has sent. `take` then finds each of them once it is the next, and
-    /// not only one that happens to be ready. No message needs this call: it is for whoever has both ends at hand, and
-    /// states in a contract what a poll finds.
+    /// Tells the receiver of the messages that a sender has sent. `take` then finds each of them once it is the next,
+    /// and not only one that happens to be ready. No message needs this call: it is for a caller who has both ends at
+    /// hand, and states in a contract what a poll finds.
     pub fn hear(&mut self, sender: &mut Sender)
         requires { sender.old.queue ≡ self.old.queue }
         ensures receiver { self.new ≡ heard_from self.old sender.old }
